@@ -7,33 +7,46 @@ ghost use Rattle.operation.specs.Rules.{isBit, maxId, oneOf, fdLength, e
 
 // Largest IDs of 11 and 29 bits.
 pub const MAX_STANDARD_ID: u32 = 2047;
+
 pub const MAX_EXTENDED_ID: u32 = 536870911;
 
 // Error Code of a Bus Error.
 pub const BIT_ERROR: u8 = 1;
+
 pub const BIT_STUFFING_ERROR: u8 = 2;
+
 pub const FORM_ERROR: u8 = 3;
+
 pub const CRC_ERROR: u8 = 4;
+
 pub const ACK_ERROR: u8 = 5;
+
 pub const BROKEN_ERROR_FRAME: u8 = 6;
 
 // Error Flag of a Bus Error.
 pub const PRIMARY_ERROR_FLAG: u8 = 1;
+
 pub const SECONDARY_ERROR_FLAG: u8 = 2;
 
 // Status.
 pub const ERROR_ACTIVE: u8 = 1;
+
 pub const ERROR_PASSIVE: u8 = 2;
+
 pub const BUS_OFF: u8 = 3;
 
 // Kind of a Configuration. The first three carry a baud rate, the last a behaviour.
 pub const CAN_BAUDRATE: u8 = 1;
+
 pub const CAN_FD_BAUDRATE: u8 = 2;
+
 pub const CAN_XL_BAUDRATE: u8 = 3;
+
 pub const ARBITRATION_LOST_BEHAVIOR: u8 = 4;
 
 // Arbitration Lost Behavior.
 pub const BUFFER_AND_RETRANSMIT: u32 = 1;
+
 pub const DISCARD_AND_NOTIFY: u32 = 2;
 
 pub enum Operation {
@@ -266,10 +279,7 @@ pub fn id_is_legal(id: u32) -> bool
 pub fn bus_error_is_legal(id: u32, code: u8, flag: u8, sender: u8) -> bool
     ensures { λ r. ⌜ r ≡ legal (Operation.BusError id code flag sender) ⌝ }
 {
-    (id <= MAX_EXTENDED_ID)
-        & is_error_code(code)
-        & is_error_flag(flag)
-        & is_bit(sender)
+    (id <= MAX_EXTENDED_ID) & is_error_code(code) & is_error_flag(flag) & is_bit(sender)
 }
 
 // What a Configuration carries: a behaviour, or a baud rate that is not 0.
