@@ -37,6 +37,10 @@ pub data Shape : Type 0 where
   none : Shape
   holds : ℕ → Operation → Shape
 
+-- what a Configuration carries: one byte for a behaviour, four for a baud rate
+abbrev pub settingOf : ℕ → List ℕ → ℕ
+settingOf kind t = cond (eqb kind 4) (getD t 9 0) (numberAt 4 t 9)
+
 unfoldable pub shapeOf : Kind → List ℕ → Shape
 shapeOf formatError t = holds 10 (FormatError (numberAt 2 t 8))
 shapeOf can t = holds 16 (CanTransmit (numberAt 4 t 8) (getD t 12 0) (getD t 13 0) (numberAt 2 t 14))
@@ -48,13 +52,13 @@ shapeOf confirm t = holds 12 (Confirm (numberAt 4 t 8))
 shapeOf arbitrationLost t = holds 12 (ArbitrationLost (numberAt 4 t 8))
 shapeOf busError t = holds 15 (BusError (numberAt 4 t 8) (getD t 12 0) (getD t 13 0) (getD t 14 0))
 shapeOf configuration t =
-    holds 9 (Configuration (getD t 8 0) (cond (eqb (getD t 8 0) 4) (getD t 9 0) (numberAt 4 t 9)))
+    holds 9 (Configuration (getD t 8 0) (settingOf (getD t 8 0) t))
 shapeOf status t = holds 9 (Status (getD t 8 0))
 shapeOf wakeup t = holds 8 Wakeup
 shapeOf unknown t = none
 
 -- by the tests of length and content: fault 4, fault 5, or the operation; n bytes are taken up
-abbrev pub verdict : Bool → Bool → Operation → ℕ → Front
+unfoldable pub verdict : Bool → Bool → Operation → ℕ → Front
 verdict sized lawful op n = cond sized (cond lawful (Found op n) (Fault 5 n)) (Fault 4 n)
 
 -- an operation of n bytes: fault 3, 4 or 5, or the operation
