@@ -1,2 +1,3 @@
 pub mod Forward
+pub mod Found
 pub mod Streams

@@ -59,6 +59,7 @@ unroll s {f} e =
   where
     shorter : (n : ℕ) → length (drop n s) ≤ length s → itemsUpTo (length s) (drop n s) (front (drop n s)) ≡ itemsOf (drop n s)
     shorter n h = same (length s) (length (drop n s)) (drop n s) (front (drop n s)) refl h (le-refl (length (drop n s)))
+
     step : (f : Front) → front s ≡ f → itemsUpTo (suc (length s)) s f ≡ andRest s f
     step End e = refl
     step (Fault number n) e = ap (λ (l : List Item). fault number (take n s) ∷ l) (shorter n (simp length-drop (omega arith)))
