@@ -1,0 +1,68 @@
+-- What an accepted write says of the operation, its data and the buffer, and what it leaves.
+-- Assumes nothing.
+use mathlib.Core.Path.{_≡_, refl, sym, ap, _∙_}
+use mathlib.Core.Bool.{Bool, true, false, cond, _&&_}
+use mathlib.Core.List.{List, _++_}
+use Prim.Native.Nat.{ℕ, _+_, _-_, _≤_, _<_}
+use native.Mathlib.Omega.{arith}
+use lib.Dec.{leb, eqb}
+use lib.ListN.{length}
+use borrow.Author.Tests.{leb-true, eqb-true}
+use Rattle.operation.specs.Format.{headLength, dataLength, lengthOf, header, encode}
+use Rattle.operation.specs.Rules.{legal}
+use Rattle.operation.specs.declared.Operation.{Operation}
+use Rattle.operation.proofs.Tests.{both}
+use Rattle.operation.proofs.Sizes.{head-small, header-length}
+use Rattle.encoder.specs.Writing.{writable, answerOf, over, bufferAfter, writtenOf}
+use Rattle.encoder.specs.declared.Written.{Written}
+use Rattle.encoder.specs.declared.Written.the-variants.{Done, RuleBroken, BufferTooSmall}
+use Rattle.encoder.proofs.Laying.{behind}
+
+pub record Accepted (op : Operation) (given room n : ℕ) : Type 0 where
+  pub size : n ≡ lengthOf op
+  pub fits : n ≤ room
+  pub lawful : legal op ≡ true
+  pub whole : given ≡ dataLength op
+  pub short : given ≤ 65535
+
+accepted-by : (op : Operation) (given room n : ℕ) → answerOf op given room ≡ Done n → Accepted op given room n
+unfolding answerOf
+accepted-by op given room n e = go (writable op given) refl (leb (lengthOf op) room) refl e
+  where
+    go : (w : Bool) → writable op given ≡ w → (r : Bool) → leb (lengthOf op) room ≡ r
+        → cond w (cond r (Done (lengthOf op)) BufferTooSmall) RuleBroken ≡ Done n → Accepted op given room n
+    go true qw true qr e =
+        let s : lengthOf op ≡ n = cc in
+        let p = both (legal op && eqb given (dataLength op)) (leb given 65535) qw in
+        let q = both (legal op) (eqb given (dataLength op)) (p .0) in
+        record {
+          size = sym s;
+          fits = rw (sym s) (leb-true (lengthOf op) room qr);
+          lawful = q .0;
+          whole = eqb-true given (dataLength op) (q .1);
+          short = leb-true given 65535 (p .1);
+        }
+    go true qw false qr e = let z : _≡_ {A = ℕ} 0 1 = cc in absurd (omega arith)
+    go false qw r qr e = let z : _≡_ {A = ℕ} 0 1 = cc in absurd (omega arith)
+
+pub accepted : {op : Operation} {given room n : ℕ} → answerOf op given room ≡ Done n → Accepted op given room n
+accepted {op} {given} {room} {n} e = accepted-by op given room n e
+
+-- an accepted write is short
+pub size-small : {op : Operation} {given room n : ℕ} → Accepted op given room n → n < 65558
+size-small {op} a = omega (arith, a .size, a .whole, a .short, head-small op)
+
+-- the header at the front and the data behind it are the operation, written
+pub written : (op : Operation) (payload l l₁ l₂ : List ℕ) (n : ℕ) → answerOf op (length payload) (length l) ≡ Done n
+    → l₁ ≡ over l 0 (header op) → l₂ ≡ over l₁ (n - length payload) payload → l₂ ≡ writtenOf op payload l
+unfolding writtenOf encode
+written op payload l l₁ l₂ n e p q =
+    let a = accepted e in
+    let k : n - length payload ≡ length (header op) = omega (arith, a .size, a .whole, header-length op (a .lawful)) in
+    rw (e, q, p, k) (behind l (header op) payload)
+
+-- a refused write leaves the buffer as it was
+pub kept : (op : Operation) (payload l : List ℕ) {w : Written} → answerOf op (length payload) (length l) ≡ w
+    → l ≡ bufferAfter w (encode op payload) l → l ≡ writtenOf op payload l
+unfolding writtenOf
+kept op payload l e h = rw e h

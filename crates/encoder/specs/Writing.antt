@@ -1,0 +1,41 @@
+-- Writing one operation to the front of a buffer: what is answered, and what the buffer then holds (01, "One round", its
+-- last paragraph, and refusals 7 and 11).
+-- Assumes nothing.
+use Prim.Native.Nat.{ℕ, _+_}
+use mathlib.Core.List.{List, _++_}
+use mathlib.Core.Bool.{Bool, cond, _&&_}
+use lib.Dec.{leb, eqb}
+use lib.ListN.{length, take, drop}
+use Rattle.operation.specs.Format.{dataLength, lengthOf, encode}
+use Rattle.operation.specs.Rules.{legal}
+use Rattle.operation.specs.declared.Operation.{Operation}
+use Rattle.encoder.specs.declared.Written.{Written}
+use Rattle.encoder.specs.declared.Written.the-variants.{Done, RuleBroken, BufferTooSmall}
+
+-- document 01's number for each answer
+abbrev pub numberOf : Written → ℕ
+numberOf (Done n) = 0
+numberOf RuleBroken = 7
+numberOf BufferTooSmall = 11
+
+-- the operation meets its rules, and its data are as many bytes as it says, and not above 65,535
+abbrev pub writable : Operation → ℕ → Bool
+writable op given = legal op && eqb given (dataLength op) && leb given 65_535
+
+-- the answer, for so many data bytes and a buffer of so many bytes
+unfoldable pub answerOf : Operation → ℕ → ℕ → Written
+answerOf op given room =
+    cond (writable op given) (cond (leb (lengthOf op) room) (Done (lengthOf op)) BufferTooSmall) RuleBroken
+
+-- some bytes laid over a list from a position on
+unfoldable pub over : List ℕ → ℕ → List ℕ → List ℕ
+over l at bytes = take at l ++ bytes ++ drop (at + length bytes) l
+
+-- the buffer after the answer: the operation at its front where it was written, and else as it was
+abbrev pub bufferAfter : Written → List ℕ → List ℕ → List ℕ
+bufferAfter (Done n) bytes buffer = over buffer 0 bytes
+bufferAfter RuleBroken bytes buffer = buffer
+bufferAfter BufferTooSmall bytes buffer = buffer
+
+unfoldable pub writtenOf : Operation → List ℕ → List ℕ → List ℕ
+writtenOf op payload buffer = bufferAfter (answerOf op (length payload) (length buffer)) (encode op payload) buffer
