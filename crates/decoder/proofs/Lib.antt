@@ -1,3 +1,4 @@
 pub mod Forward
 pub mod Found
 pub mod Streams
+pub mod Payload
