@@ -2,18 +2,19 @@
 -- Assumes nothing.
 use mathlib.Core.Path.{_≡_, refl, sym, ap, _∙_}
 use mathlib.Core.Bool.{Bool, true, false, cond, _&&_}
-use mathlib.Core.List.{List, _++_}
+use mathlib.Core.List.{List, [], _∷_, _++_, append-nil}
 use Prim.Native.Nat.{ℕ, _+_, _-_, _≤_, _<_}
 use native.Mathlib.Omega.{arith}
 use lib.Dec.{leb, eqb}
 use lib.ListN.{length}
 use borrow.Author.Tests.{leb-true, eqb-true}
 use Rattle.operation.specs.Format.{headLength, dataLength, lengthOf, header, encode}
-use Rattle.operation.specs.Rules.{legal}
+use Rattle.operation.specs.Rules.{allAfter, rules, legal}
 use Rattle.operation.specs.declared.Operation.{Operation}
+use Rattle.operation.specs.declared.Operation.the-variants.{FormatError, Wakeup}
 use Rattle.operation.proofs.Tests.{both}
 use Rattle.operation.proofs.Sizes.{head-small, header-length}
-use Rattle.encoder.specs.Writing.{writable, answerOf, over, bufferAfter, writtenOf}
+use Rattle.encoder.specs.Writing.{decision, answerOf, over, bufferAfter, writtenOf}
 use Rattle.encoder.specs.declared.Written.{Written}
 use Rattle.encoder.specs.declared.Written.the-variants.{Done, RuleBroken, BufferTooSmall}
 use Rattle.encoder.proofs.Laying.{behind}
@@ -26,10 +27,11 @@ pub record Accepted (op : Operation) (given room n : ℕ) : Type 0 where
   pub short : given ≤ 65535
 
 accepted-by : (op : Operation) (given room n : ℕ) → answerOf op given room ≡ Done n → Accepted op given room n
-unfolding answerOf
-accepted-by op given room n e = go (writable op given) refl (leb (lengthOf op) room) refl e
+unfolding answerOf decision
+accepted-by op given room n e =
+    go (legal op && eqb given (dataLength op) && leb given 65535) refl (leb (lengthOf op) room) refl e
   where
-    go : (w : Bool) → writable op given ≡ w → (r : Bool) → leb (lengthOf op) room ≡ r
+    go : (w : Bool) → (legal op && eqb given (dataLength op) && leb given 65535) ≡ w → (r : Bool) → leb (lengthOf op) room ≡ r
         → cond w (cond r (Done (lengthOf op)) BufferTooSmall) RuleBroken ≡ Done n → Accepted op given room n
     go true qw true qr e =
         let s : lengthOf op ≡ n = cc in
@@ -48,18 +50,38 @@ accepted-by op given room n e = go (writable op given) refl (leb (lengthOf op) r
 pub accepted : {op : Operation} {given room n : ℕ} → answerOf op given room ≡ Done n → Accepted op given room n
 accepted {op} {given} {room} {n} e = accepted-by op given room n e
 
+-- the answer to an operation, from that to its kind's numbers
+pub answers : (op : Operation) (given room : ℕ) {lawful : Bool} {w : Written} → lawful ≡ legal op
+    → w ≡ decision lawful (headLength op) (dataLength op) given room → w ≡ answerOf op given room
+unfolding answerOf
+answers op given room q e = e ∙ ap (λ (b : Bool). decision b (headLength op) (dataLength op) given room) q
+
+-- a Format Error and a Wakeup have no rules
+pub format-error-lawful : (n : ℕ) → true ≡ legal (FormatError n)
+unfolding legal rules allAfter
+format-error-lawful n = refl
+
+pub wakeup-lawful : true ≡ legal Wakeup
+unfolding legal rules allAfter
+wakeup-lawful = refl
+
 -- an accepted write is short
 pub size-small : {op : Operation} {given room n : ℕ} → Accepted op given room n → n < 65558
 size-small {op} a = omega (arith, a .size, a .whole, a .short, head-small op)
 
 -- the header at the front and the data behind it are the operation, written
-pub written : (op : Operation) (payload l l₁ l₂ : List ℕ) (n : ℕ) → answerOf op (length payload) (length l) ≡ Done n
-    → l₁ ≡ over l 0 (header op) → l₂ ≡ over l₁ (n - length payload) payload → l₂ ≡ writtenOf op payload l
+pub written : (op : Operation) (payload l : List ℕ) {l₁ l₂ : List ℕ} {n : ℕ} → answerOf op (length payload) (length l) ≡ Done n
+    → l₁ ≡ over l 0 (header op) → l₂ ≡ over l₁ (headLength op) payload → l₂ ≡ writtenOf op payload l
 unfolding writtenOf encode
-written op payload l l₁ l₂ n e p q =
-    let a = accepted e in
-    let k : n - length payload ≡ length (header op) = omega (arith, a .size, a .whole, header-length op (a .lawful)) in
-    rw (e, q, p, k) (behind l (header op) payload)
+written op payload l e p q =
+    rw (e, q, p, ← header-length op (accepted e .lawful)) (behind l (header op) payload)
+
+-- the header alone is the operation, written, where it has no data
+pub written-bare : (op : Operation) (payload l : List ℕ) {l₁ : List ℕ} {n : ℕ} → answerOf op (length payload) (length l) ≡ Done n
+    → dataLength op ≡ 0 → l₁ ≡ over l 0 (header op) → l₁ ≡ writtenOf op payload l
+unfolding writtenOf encode
+written-bare op [] l e z p = rw (e, p, append-nil (header op))
+written-bare op (b ∷ payload) l e z p = absurd (omega (arith, accepted e .whole))
 
 -- a refused write leaves the buffer as it was
 pub kept : (op : Operation) (payload l : List ℕ) {w : Written} → answerOf op (length payload) (length l) ≡ w

@@ -6,7 +6,7 @@ use mathlib.Core.List.{List, _++_}
 use mathlib.Core.Bool.{Bool, cond, _&&_}
 use lib.Dec.{leb, eqb}
 use lib.ListN.{length, take, drop}
-use Rattle.operation.specs.Format.{dataLength, lengthOf, encode}
+use Rattle.operation.specs.Format.{headLength, dataLength, encode}
 use Rattle.operation.specs.Rules.{legal}
 use Rattle.operation.specs.declared.Operation.{Operation}
 use Rattle.encoder.specs.declared.Written.{Written}
@@ -18,14 +18,15 @@ numberOf (Done n) = 0
 numberOf RuleBroken = 7
 numberOf BufferTooSmall = 11
 
--- the operation meets its rules, and its data are as many bytes as it says, and not above 65,535
-abbrev pub writable : Operation → ℕ → Bool
-writable op given = legal op && eqb given (dataLength op) && leb given 65_535
+-- the operation meets its rules, its data are as many bytes as it says and not above 65,535, and the buffer has room for
+-- its header and data
+unfoldable pub decision : Bool → ℕ → ℕ → ℕ → ℕ → Written
+decision lawful head said given room =
+    cond (lawful && eqb given said && leb given 65_535) (cond (leb (head + said) room) (Done (head + said)) BufferTooSmall) RuleBroken
 
 -- the answer, for so many data bytes and a buffer of so many bytes
 unfoldable pub answerOf : Operation → ℕ → ℕ → Written
-answerOf op given room =
-    cond (writable op given) (cond (leb (lengthOf op) room) (Done (lengthOf op)) BufferTooSmall) RuleBroken
+answerOf op given room = decision (legal op) (headLength op) (dataLength op) given room
 
 -- some bytes laid over a list from a position on
 unfoldable pub over : List ℕ → ℕ → List ℕ → List ℕ

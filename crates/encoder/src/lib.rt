@@ -8,7 +8,7 @@ ghost use lib.ListN.{length};
 ghost use Rattle.operation.specs.Number.{littleEndian};
 ghost use Rattle.operation.specs.Format.{configurationLength, headLength, lengthOf, header, encode};
 ghost use Rattle.operation.specs.Rules.{legal};
-ghost use Rattle.encoder.specs.Writing.{numberOf, answerOf, over, writtenOf};
+ghost use Rattle.encoder.specs.Writing.{numberOf, decision, answerOf, over, writtenOf};
 use operation::Operation;
 
 // The answer of a write: the length written, or the refusal.
@@ -29,13 +29,14 @@ pub fn number_of(w: Written) -> u8
     }
 }
 
-// What a write of so many data bytes to a buffer of so many bytes answers.
-fn decide(op: Operation, given: usize, room: usize) -> Written
-    ensures { λ r. ⌜ r ≡ answerOf op given room ⌝ }
+// What a write answers, by whether the operation meets its rules, the lengths of its header and of its data as it says them,
+// the data's length, and the buffer's.
+fn decide(lawful: bool, head: usize, said: u16, given: usize, room: usize) -> Written
+    requires { ⌜ head ≤ 22 ⌝ }
+    ensures { λ r. ⌜ r ≡ decision lawful head said given room ⌝ }
 {
-    let said = operation::data_length(op) as usize;
-    if operation::is_legal(op) & (given == said) {
-        let size = operation::head_length(op) + said;
+    let size = head + said as usize;
+    if lawful & (given == said as usize) {
         if size <= room {
             return Written::Done(size);
         }
@@ -206,47 +207,198 @@ fn put_status(buffer: &mut [u8], status: u8)
     put1(buffer, 8, status);
 }
 
-// The header of an operation that meets its rules, by its kind.
-fn put_header(buffer: &mut [u8], op: Operation, size: u32)
-    requires { ⌜ (headLength op ≤ length (now buffer)) × (size ≡ lengthOf op) × (legal op ≡ true) ⌝ }
-    ensures { λ _. ⌜ now (buffer .exit) ≡ over (now (buffer .entry)) 0 (header op) ⌝ }
+// Writing one kind: the answer, then the header and the data behind it.
+
+fn write_format_error(n: u16, payload: &[u8], buffer: &mut [u8]) -> Written
+    ensures answer { λ r. ⌜ r ≡ answerOf (Operation.FormatError n) (length (now (payload .entry))) (length (now (buffer .entry))) ⌝ }
+    ensures written { λ _. ⌜ now (buffer .exit) ≡ writtenOf (Operation.FormatError n) (now (payload .entry)) (now (buffer .entry)) ⌝ }
 {
-    match op {
-        Operation::FormatError { n } => put_format_error(buffer, size, n),
-        Operation::CanTransmit { id, ide, rtr, dl } => put_can(buffer, size, id, ide, rtr, dl),
-        Operation::FdTransmit {
-            id,
-            ide,
-            brs,
-            esi,
-            dl,
-        } => put_fd(buffer, size, id, ide, brs, esi, dl),
-        Operation::XlTransmit {
-            id,
-            ide,
-            sec,
-            sdt,
-            vcid,
-            af,
-            dl,
-        } => put_xl(buffer, size, id, ide, sec, sdt, vcid, af, dl),
-        Operation::Confirm { id } => put_confirm(buffer, id),
-        Operation::ArbitrationLost { id } => put_arbitration_lost(buffer, id),
-        Operation::BusError {
-            id,
-            error_code,
-            error_flag,
-            is_sender,
-        } => put_bus_error(buffer, id, error_code, error_flag, is_sender),
-        Operation::Configuration { kind, value } => {
-            if kind == operation::ARBITRATION_LOST_BEHAVIOR {
-                put_behaviour(buffer, value)
-            } else {
-                put_baud_rate(buffer, kind, value)
-            }
+    let lawful = true;
+    let answer = decide(lawful, 10, n, payload.len(), buffer.len());
+    match answer {
+        Written::Done(size) => {
+            put_format_error(buffer, size as u32, n);
+            put(buffer, 10, payload);
+            answer
         }
-        Operation::Status { status } => put_status(buffer, status),
-        Operation::Wakeup => put_start(buffer, 0x42, 8),
+        Written::RuleBroken => answer,
+        Written::BufferTooSmall => answer,
+    }
+}
+
+fn write_can(id: u32, ide: u8, rtr: u8, dl: u16, payload: &[u8], buffer: &mut [u8]) -> Written
+    ensures answer { λ r. ⌜ r ≡ answerOf (Operation.CanTransmit id ide rtr dl) (length (now (payload .entry))) (length (now (buffer .entry))) ⌝ }
+    ensures written { λ _. ⌜ now (buffer .exit) ≡ writtenOf (Operation.CanTransmit id ide rtr dl) (now (payload .entry)) (now (buffer .entry)) ⌝ }
+{
+    let lawful = operation::can_is_legal(id, ide, rtr, dl);
+    let answer = decide(lawful, 16, dl, payload.len(), buffer.len());
+    match answer {
+        Written::Done(size) => {
+            put_can(buffer, size as u32, id, ide, rtr, dl);
+            put(buffer, 16, payload);
+            answer
+        }
+        Written::RuleBroken => answer,
+        Written::BufferTooSmall => answer,
+    }
+}
+
+fn write_fd(
+    id: u32,
+    ide: u8,
+    brs: u8,
+    esi: u8,
+    dl: u16,
+    payload: &[u8],
+    buffer: &mut [u8],
+) -> Written
+    ensures answer { λ r. ⌜ r ≡ answerOf (Operation.FdTransmit id ide brs esi dl) (length (now (payload .entry))) (length (now (buffer .entry))) ⌝ }
+    ensures written { λ _. ⌜ now (buffer .exit) ≡ writtenOf (Operation.FdTransmit id ide brs esi dl) (now (payload .entry)) (now (buffer .entry)) ⌝ }
+{
+    let lawful = operation::fd_is_legal(id, ide, brs, esi, dl);
+    let answer = decide(lawful, 17, dl, payload.len(), buffer.len());
+    match answer {
+        Written::Done(size) => {
+            put_fd(buffer, size as u32, id, ide, brs, esi, dl);
+            put(buffer, 17, payload);
+            answer
+        }
+        Written::RuleBroken => answer,
+        Written::BufferTooSmall => answer,
+    }
+}
+
+fn write_xl(
+    id: u32,
+    ide: u8,
+    sec: u8,
+    sdt: u8,
+    vcid: u8,
+    af: u32,
+    dl: u16,
+    payload: &[u8],
+    buffer: &mut [u8],
+) -> Written
+    ensures answer { λ r. ⌜ r ≡ answerOf (Operation.XlTransmit id ide sec sdt vcid af dl) (length (now (payload .entry))) (length (now (buffer .entry))) ⌝ }
+    ensures written { λ _. ⌜ now (buffer .exit) ≡ writtenOf (Operation.XlTransmit id ide sec sdt vcid af dl) (now (payload .entry)) (now (buffer .entry)) ⌝ }
+{
+    let lawful = operation::xl_is_legal(id, ide, sec, sdt, vcid, af, dl);
+    let answer = decide(lawful, 22, dl, payload.len(), buffer.len());
+    match answer {
+        Written::Done(size) => {
+            put_xl(buffer, size as u32, id, ide, sec, sdt, vcid, af, dl);
+            put(buffer, 22, payload);
+            answer
+        }
+        Written::RuleBroken => answer,
+        Written::BufferTooSmall => answer,
+    }
+}
+
+fn write_confirm(id: u32, payload: &[u8], buffer: &mut [u8]) -> Written
+    ensures answer { λ r. ⌜ r ≡ answerOf (Operation.Confirm id) (length (now (payload .entry))) (length (now (buffer .entry))) ⌝ }
+    ensures written { λ _. ⌜ now (buffer .exit) ≡ writtenOf (Operation.Confirm id) (now (payload .entry)) (now (buffer .entry)) ⌝ }
+{
+    let lawful = operation::id_is_legal(id);
+    let answer = decide(lawful, 12, 0, payload.len(), buffer.len());
+    match answer {
+        Written::Done(size) => {
+            put_confirm(buffer, id);
+            Written::Done(size)
+        }
+        Written::RuleBroken => answer,
+        Written::BufferTooSmall => answer,
+    }
+}
+
+fn write_arbitration_lost(id: u32, payload: &[u8], buffer: &mut [u8]) -> Written
+    ensures answer { λ r. ⌜ r ≡ answerOf (Operation.ArbitrationLost id) (length (now (payload .entry))) (length (now (buffer .entry))) ⌝ }
+    ensures written { λ _. ⌜ now (buffer .exit) ≡ writtenOf (Operation.ArbitrationLost id) (now (payload .entry)) (now (buffer .entry)) ⌝ }
+{
+    let lawful = operation::id_is_legal(id);
+    let answer = decide(lawful, 12, 0, payload.len(), buffer.len());
+    match answer {
+        Written::Done(size) => {
+            put_arbitration_lost(buffer, id);
+            Written::Done(size)
+        }
+        Written::RuleBroken => answer,
+        Written::BufferTooSmall => answer,
+    }
+}
+
+fn write_bus_error(
+    id: u32,
+    code: u8,
+    flag: u8,
+    sender: u8,
+    payload: &[u8],
+    buffer: &mut [u8],
+) -> Written
+    ensures answer { λ r. ⌜ r ≡ answerOf (Operation.BusError id code flag sender) (length (now (payload .entry))) (length (now (buffer .entry))) ⌝ }
+    ensures written { λ _. ⌜ now (buffer .exit) ≡ writtenOf (Operation.BusError id code flag sender) (now (payload .entry)) (now (buffer .entry)) ⌝ }
+{
+    let lawful = operation::bus_error_is_legal(id, code, flag, sender);
+    let answer = decide(lawful, 15, 0, payload.len(), buffer.len());
+    match answer {
+        Written::Done(size) => {
+            put_bus_error(buffer, id, code, flag, sender);
+            Written::Done(size)
+        }
+        Written::RuleBroken => answer,
+        Written::BufferTooSmall => answer,
+    }
+}
+
+fn write_status(status: u8, payload: &[u8], buffer: &mut [u8]) -> Written
+    ensures answer { λ r. ⌜ r ≡ answerOf (Operation.Status status) (length (now (payload .entry))) (length (now (buffer .entry))) ⌝ }
+    ensures written { λ _. ⌜ now (buffer .exit) ≡ writtenOf (Operation.Status status) (now (payload .entry)) (now (buffer .entry)) ⌝ }
+{
+    let lawful = operation::status_is_legal(status);
+    let answer = decide(lawful, 9, 0, payload.len(), buffer.len());
+    match answer {
+        Written::Done(size) => {
+            put_status(buffer, status);
+            Written::Done(size)
+        }
+        Written::RuleBroken => answer,
+        Written::BufferTooSmall => answer,
+    }
+}
+
+fn write_configuration(kind: u8, value: u32, payload: &[u8], buffer: &mut [u8]) -> Written
+    ensures answer { λ r. ⌜ r ≡ answerOf (Operation.Configuration kind value) (length (now (payload .entry))) (length (now (buffer .entry))) ⌝ }
+    ensures written { λ _. ⌜ now (buffer .exit) ≡ writtenOf (Operation.Configuration kind value) (now (payload .entry)) (now (buffer .entry)) ⌝ }
+{
+    let lawful = operation::configuration_is_legal(kind, value);
+    let head = operation::configuration_length(kind);
+    let answer = decide(lawful, head, 0, payload.len(), buffer.len());
+    match answer {
+        Written::Done(size) => {
+            if kind == operation::ARBITRATION_LOST_BEHAVIOR {
+                put_behaviour(buffer, value);
+                return Written::Done(size);
+            }
+            put_baud_rate(buffer, kind, value);
+            Written::Done(size)
+        }
+        Written::RuleBroken => answer,
+        Written::BufferTooSmall => answer,
+    }
+}
+
+fn write_wakeup(payload: &[u8], buffer: &mut [u8]) -> Written
+    ensures answer { λ r. ⌜ r ≡ answerOf Operation.Wakeup (length (now (payload .entry))) (length (now (buffer .entry))) ⌝ }
+    ensures written { λ _. ⌜ now (buffer .exit) ≡ writtenOf Operation.Wakeup (now (payload .entry)) (now (buffer .entry)) ⌝ }
+{
+    let answer = decide(true, 8, 0, payload.len(), buffer.len());
+    match answer {
+        Written::Done(size) => {
+            put_start(buffer, 0x42, 8);
+            Written::Done(size)
+        }
+        Written::RuleBroken => answer,
+        Written::BufferTooSmall => answer,
     }
 }
 
@@ -255,14 +407,40 @@ pub fn write(op: Operation, payload: &[u8], buffer: &mut [u8]) -> Written
     ensures answer { λ r. ⌜ r ≡ answerOf op (length (now (payload .entry))) (length (now (buffer .entry))) ⌝ }
     ensures written { λ _. ⌜ now (buffer .exit) ≡ writtenOf op (now (payload .entry)) (now (buffer .entry)) ⌝ }
 {
-    let answer = decide(op, payload.len(), buffer.len());
-    match answer {
-        Written::Done(size) => {
-            put_header(buffer, op, size as u32);
-            put(buffer, size - payload.len(), payload);
-            answer
-        }
-        Written::RuleBroken => answer,
-        Written::BufferTooSmall => answer,
+    match op {
+        Operation::FormatError { n } => write_format_error(n, payload, buffer),
+        Operation::CanTransmit { id, ide, rtr, dl } => write_can(id, ide, rtr, dl, payload, buffer),
+        Operation::FdTransmit {
+            id,
+            ide,
+            brs,
+            esi,
+            dl,
+        } => write_fd(id, ide, brs, esi, dl, payload, buffer),
+        Operation::XlTransmit {
+            id,
+            ide,
+            sec,
+            sdt,
+            vcid,
+            af,
+            dl,
+        } => write_xl(id, ide, sec, sdt, vcid, af, dl, payload, buffer),
+        Operation::Confirm { id } => write_confirm(id, payload, buffer),
+        Operation::ArbitrationLost { id } => write_arbitration_lost(id, payload, buffer),
+        Operation::BusError {
+            id,
+            error_code,
+            error_flag,
+            is_sender,
+        } => write_bus_error(id, error_code, error_flag, is_sender, payload, buffer),
+        Operation::Configuration { kind, value } => write_configuration(
+            kind,
+            value,
+            payload,
+            buffer,
+        ),
+        Operation::Status { status } => write_status(status, payload, buffer),
+        Operation::Wakeup => write_wakeup(payload, buffer),
     }
 }

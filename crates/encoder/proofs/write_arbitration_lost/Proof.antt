@@ -1,0 +1,30 @@
+-- The answer is decided first; an accepted write lays the header, a refused one nothing.
+use Rattle.encoder.proofs.Answers.{answers, accepted, written-bare, kept}
+use Rattle.operation.specs.declared.Operation.the-variants.{ArbitrationLost}
+use denote.Ref.{now}
+use mathlib.Core.Path.{refl, sym, _∙_}
+use native.Mathlib.Omega.{arith}
+use borrow.Author.Needs.{needs}
+use Rattle.encoder.proofs.write_arbitration_lost.Statement.{statement}
+use Rattle.encoder.proofs.write_arbitration_lost.Tie as tie
+
+put-arbitration-lost-requires : tie.Need-put-arbitration-lost-requires
+put-arbitration-lost-requires c κs = let a = accepted (sym (answers (ArbitrationLost (c .before .before .before .before .before .before .before .before .args .id)) _ _ (c .before .before .before .before .before .id-is-legal .ensures .1) (c .before .before .before .before .decide .ensures)) ∙ c .before .before .answer .given .1) in omega (arith, a .size, a .fits)
+
+returns : tie.Need-returns
+returns c =
+    let e = sym (answers (ArbitrationLost (c .before .before .before .before .before .before .before .before .before .before .before .args .id)) _ _ (c .before .before .before .before .before .before .before .before .id-is-legal .ensures .1) (c .before .before .before .before .before .before .before .decide .ensures)) ∙ c .before .before .before .before .before .answer .given .1 in
+    (sym e, written-bare (ArbitrationLost (c .before .before .before .before .before .before .before .before .before .before .before .args .id)) (now (c .before .before .before .before .before .before .before .before .before .before .before .args .payload)) (now (c .before .before .before .before .before .before .before .before .before .before .before .args .buffer)) e refl (c .before .before .put-arbitration-lost .ensures))
+
+returns-2 : tie.Need-returns-2
+returns-2 c =
+    let e = answers (ArbitrationLost (c .before .before .before .before .before .before .args .id)) _ _ (c .before .before .before .id-is-legal .ensures .1) (c .before .before .decide .ensures) in
+    (e, kept _ _ _ (sym e ∙ c .enum-told .given .1) refl)
+
+returns-3 : tie.Need-returns-3
+returns-3 c =
+    let e = answers (ArbitrationLost (c .before .before .before .before .before .before .args .id)) _ _ (c .before .before .before .id-is-legal .ensures .1) (c .before .before .decide .ensures) in
+    (e, kept _ _ _ (sym e ∙ c .enum-told2 .given .1) refl)
+
+pub write-arbitration-lost-spec : {M : Type 1} → statement M
+write-arbitration-lost-spec = tie.close (tie.spec (λ c κs. search needs) (λ c κs. search needs) (λ c. search needs) put-arbitration-lost-requires (λ c. search needs) (λ c. search needs) (λ c. search needs) returns returns-2 returns-3)

@@ -1,0 +1,30 @@
+-- The answer is decided first; an accepted write lays the header, a refused one nothing.
+use Rattle.encoder.proofs.Answers.{answers, accepted, written-bare, kept}
+use Rattle.operation.specs.declared.Operation.the-variants.{BusError}
+use denote.Ref.{now}
+use mathlib.Core.Path.{refl, sym, _∙_}
+use native.Mathlib.Omega.{arith}
+use borrow.Author.Needs.{needs}
+use Rattle.encoder.proofs.write_bus_error.Statement.{statement}
+use Rattle.encoder.proofs.write_bus_error.Tie as tie
+
+put-bus-error-requires : tie.Need-put-bus-error-requires
+put-bus-error-requires c κs = let a = accepted (sym (answers (BusError (c .before .before .before .before .before .before .before .before .args .id) (c .before .before .before .before .before .before .before .before .args .code) (c .before .before .before .before .before .before .before .before .args .flag) (c .before .before .before .before .before .before .before .before .args .sender)) _ _ (c .before .before .before .before .before .bus-error-is-legal .ensures) (c .before .before .before .before .decide .ensures)) ∙ c .before .before .answer .given .1) in omega (arith, a .size, a .fits)
+
+returns : tie.Need-returns
+returns c =
+    let e = sym (answers (BusError (c .before .before .before .before .before .before .before .before .before .before .before .args .id) (c .before .before .before .before .before .before .before .before .before .before .before .args .code) (c .before .before .before .before .before .before .before .before .before .before .before .args .flag) (c .before .before .before .before .before .before .before .before .before .before .before .args .sender)) _ _ (c .before .before .before .before .before .before .before .before .bus-error-is-legal .ensures) (c .before .before .before .before .before .before .before .decide .ensures)) ∙ c .before .before .before .before .before .answer .given .1 in
+    (sym e, written-bare (BusError (c .before .before .before .before .before .before .before .before .before .before .before .args .id) (c .before .before .before .before .before .before .before .before .before .before .before .args .code) (c .before .before .before .before .before .before .before .before .before .before .before .args .flag) (c .before .before .before .before .before .before .before .before .before .before .before .args .sender)) (now (c .before .before .before .before .before .before .before .before .before .before .before .args .payload)) (now (c .before .before .before .before .before .before .before .before .before .before .before .args .buffer)) e refl (c .before .before .put-bus-error .ensures))
+
+returns-2 : tie.Need-returns-2
+returns-2 c =
+    let e = answers (BusError (c .before .before .before .before .before .before .args .id) (c .before .before .before .before .before .before .args .code) (c .before .before .before .before .before .before .args .flag) (c .before .before .before .before .before .before .args .sender)) _ _ (c .before .before .before .bus-error-is-legal .ensures) (c .before .before .decide .ensures) in
+    (e, kept _ _ _ (sym e ∙ c .enum-told .given .1) refl)
+
+returns-3 : tie.Need-returns-3
+returns-3 c =
+    let e = answers (BusError (c .before .before .before .before .before .before .args .id) (c .before .before .before .before .before .before .args .code) (c .before .before .before .before .before .before .args .flag) (c .before .before .before .before .before .before .args .sender)) _ _ (c .before .before .before .bus-error-is-legal .ensures) (c .before .before .decide .ensures) in
+    (e, kept _ _ _ (sym e ∙ c .enum-told2 .given .1) refl)
+
+pub write-bus-error-spec : {M : Type 1} → statement M
+write-bus-error-spec = tie.close (tie.spec (λ c κs. search needs) (λ c κs. search needs) (λ c. search needs) put-bus-error-requires (λ c. search needs) (λ c. search needs) (λ c. search needs) returns returns-2 returns-3)

@@ -1,0 +1,47 @@
+-- The answer is decided first; an accepted write lays the header, a refused one nothing.
+use Rattle.encoder.proofs.Answers.{answers, accepted, written-bare, kept}
+use Rattle.operation.proofs.Sizes.{baud-length}
+use Rattle.operation.specs.declared.Operation.the-variants.{Configuration}
+use borrow.Author.Tests.{ne-eqb}
+use denote.Ref.{now}
+use mathlib.Core.Path.{refl, sym, _∙_}
+use native.Mathlib.Omega.{arith}
+use borrow.Author.Needs.{needs}
+use Rattle.encoder.proofs.write_configuration.Statement.{statement}
+use Rattle.encoder.proofs.write_configuration.Tie as tie
+
+put-behaviour-requires : tie.Need-put-behaviour-requires
+put-behaviour-requires c κs =
+    let a = accepted (sym (answers (Configuration (c .before .before .before .before .before .before .before .before .before .before .args .kind) (c .before .before .before .before .before .before .before .before .before .before .args .value)) _ _ (c .before .before .before .before .before .before .before .configuration-is-legal .ensures) (rw (c .before .before .before .before .before .before .configuration-length .ensures .0) at (c .before .before .before .before .before .decide .ensures))) ∙ c .before .before .before .answer .given .1) in
+    let n = rw (c .before .if1 .taken) at (a .size) in
+    omega (arith, n, a .fits)
+
+returns : tie.Need-returns
+returns c =
+    let e = sym (answers (Configuration (c .before .before .before .before .before .before .before .before .before .before .before .before .before .args .kind) (c .before .before .before .before .before .before .before .before .before .before .before .before .before .args .value)) _ _ (c .before .before .before .before .before .before .before .before .before .before .configuration-is-legal .ensures) (rw (c .before .before .before .before .before .before .before .before .before .configuration-length .ensures .0) at (c .before .before .before .before .before .before .before .before .decide .ensures))) ∙ c .before .before .before .before .before .before .answer .given .1 in
+    (sym e, written-bare (Configuration (c .before .before .before .before .before .before .before .before .before .before .before .before .before .args .kind) (c .before .before .before .before .before .before .before .before .before .before .before .before .before .args .value)) (now (c .before .before .before .before .before .before .before .before .before .before .before .before .before .args .payload)) (now (c .before .before .before .before .before .before .before .before .before .before .before .before .before .args .buffer)) e refl (rw (c .before .before .before .before .if1 .taken) (c .before .before .put-behaviour .ensures)))
+
+put-baud-rate-requires : tie.Need-put-baud-rate-requires
+put-baud-rate-requires c κs =
+    let a = accepted (sym (answers (Configuration (c .before .before .before .before .before .before .before .before .before .before .args .kind) (c .before .before .before .before .before .before .before .before .before .before .args .value)) _ _ (c .before .before .before .before .before .before .before .configuration-is-legal .ensures) (rw (c .before .before .before .before .before .before .configuration-length .ensures .0) at (c .before .before .before .before .before .decide .ensures))) ∙ c .before .before .before .answer .given .1) in
+    let q = ne-eqb _ _ (c .before .if1 .left) in
+    let n = baud-length _ _ (a .lawful) q in
+    (omega (arith, a .size, a .fits, n), (q, n))
+
+returns-2 : tie.Need-returns-2
+returns-2 c =
+    let e = sym (answers (Configuration (c .before .before .before .before .before .before .before .before .before .before .before .before .before .args .kind) (c .before .before .before .before .before .before .before .before .before .before .before .before .before .args .value)) _ _ (c .before .before .before .before .before .before .before .before .before .before .configuration-is-legal .ensures) (rw (c .before .before .before .before .before .before .before .before .before .configuration-length .ensures .0) at (c .before .before .before .before .before .before .before .before .decide .ensures))) ∙ c .before .before .before .before .before .before .answer .given .1 in
+    (sym e, written-bare (Configuration (c .before .before .before .before .before .before .before .before .before .before .before .before .before .args .kind) (c .before .before .before .before .before .before .before .before .before .before .before .before .before .args .value)) (now (c .before .before .before .before .before .before .before .before .before .before .before .before .before .args .payload)) (now (c .before .before .before .before .before .before .before .before .before .before .before .before .before .args .buffer)) e refl (c .before .before .put-baud-rate .ensures))
+
+returns-3 : tie.Need-returns-3
+returns-3 c =
+    let e = answers (Configuration (c .before .before .before .before .before .before .before .args .kind) (c .before .before .before .before .before .before .before .args .value)) _ _ (c .before .before .before .before .configuration-is-legal .ensures) (rw (c .before .before .before .configuration-length .ensures .0) at (c .before .before .decide .ensures)) in
+    (e, kept _ _ _ (sym e ∙ c .enum-told .given .1) refl)
+
+returns-4 : tie.Need-returns-4
+returns-4 c =
+    let e = answers (Configuration (c .before .before .before .before .before .before .before .args .kind) (c .before .before .before .before .before .before .before .args .value)) _ _ (c .before .before .before .before .configuration-is-legal .ensures) (rw (c .before .before .before .configuration-length .ensures .0) at (c .before .before .decide .ensures)) in
+    (e, kept _ _ _ (sym e ∙ c .enum-told2 .given .1) refl)
+
+pub write-configuration-spec : {M : Type 1} → statement M
+write-configuration-spec = tie.close (tie.spec (λ c κs. search needs) (λ c κs. search needs) (λ c κs. search needs) (λ c. search needs) put-behaviour-requires (λ c. search needs) returns put-baud-rate-requires (λ c. search needs) (λ c. search needs) (λ c. search needs) returns-2 returns-3 returns-4)

@@ -1,0 +1,36 @@
+-- The answer is decided first; an accepted write lays the header and then the data, a refused one nothing.
+use Rattle.encoder.proofs.Answers.{answers, accepted, size-small, written, kept}
+use Rattle.operation.specs.declared.Operation.the-variants.{XlTransmit}
+use denote.Ref.{now}
+use mathlib.Core.Path.{refl, sym, _∙_}
+use native.Mathlib.Omega.{arith}
+use borrow.Author.Needs.{needs}
+use Rattle.encoder.proofs.write_xl.Statement.{statement}
+use Rattle.encoder.proofs.write_xl.Tie as tie
+
+cast-put-xl : tie.Need-cast-put-xl
+cast-put-xl c = omega (arith, size-small (accepted (sym (answers (XlTransmit (c .before .before .before .before .before .before .before .before .args .id) (c .before .before .before .before .before .before .before .before .args .ide) (c .before .before .before .before .before .before .before .before .args .sec) (c .before .before .before .before .before .before .before .before .args .sdt) (c .before .before .before .before .before .before .before .before .args .vcid) (c .before .before .before .before .before .before .before .before .args .af) (c .before .before .before .before .before .before .before .before .args .dl)) _ _ (c .before .before .before .before .before .xl-is-legal .ensures) (c .before .before .before .before .decide .ensures)) ∙ c .before .before .answer .given .1)))
+
+put-xl-requires : tie.Need-put-xl-requires
+put-xl-requires c κs = let a = accepted (sym (answers (XlTransmit (c .before .before .before .before .before .before .before .before .args .id) (c .before .before .before .before .before .before .before .before .args .ide) (c .before .before .before .before .before .before .before .before .args .sec) (c .before .before .before .before .before .before .before .before .args .sdt) (c .before .before .before .before .before .before .before .before .args .vcid) (c .before .before .before .before .before .before .before .before .args .af) (c .before .before .before .before .before .before .before .before .args .dl)) _ _ (c .before .before .before .before .before .xl-is-legal .ensures) (c .before .before .before .before .decide .ensures)) ∙ c .before .before .answer .given .1) in (omega (arith, a .size, a .fits), a .size)
+
+put-requires : tie.Need-put-requires
+put-requires c κs = let a = accepted (sym (answers (XlTransmit (c .before .before .before .before .before .before .before .before .before .before .before .before .args .id) (c .before .before .before .before .before .before .before .before .before .before .before .before .args .ide) (c .before .before .before .before .before .before .before .before .before .before .before .before .args .sec) (c .before .before .before .before .before .before .before .before .before .before .before .before .args .sdt) (c .before .before .before .before .before .before .before .before .before .before .before .before .args .vcid) (c .before .before .before .before .before .before .before .before .before .before .before .before .args .af) (c .before .before .before .before .before .before .before .before .before .before .before .before .args .dl)) _ _ (c .before .before .before .before .before .before .before .before .before .xl-is-legal .ensures) (c .before .before .before .before .before .before .before .before .decide .ensures)) ∙ c .before .before .before .before .before .before .answer .given .1) in omega (arith, a .size, a .whole, a .fits)
+
+returns : tie.Need-returns
+returns c =
+    let e = sym (answers (XlTransmit (c .before .before .before .before .before .before .before .before .before .before .before .before .before .before .before .args .id) (c .before .before .before .before .before .before .before .before .before .before .before .before .before .before .before .args .ide) (c .before .before .before .before .before .before .before .before .before .before .before .before .before .before .before .args .sec) (c .before .before .before .before .before .before .before .before .before .before .before .before .before .before .before .args .sdt) (c .before .before .before .before .before .before .before .before .before .before .before .before .before .before .before .args .vcid) (c .before .before .before .before .before .before .before .before .before .before .before .before .before .before .before .args .af) (c .before .before .before .before .before .before .before .before .before .before .before .before .before .before .before .args .dl)) _ _ (c .before .before .before .before .before .before .before .before .before .before .before .before .xl-is-legal .ensures) (c .before .before .before .before .before .before .before .before .before .before .before .decide .ensures)) ∙ c .before .before .before .before .before .before .before .before .before .answer .given .1 in
+    (sym e, written (XlTransmit (c .before .before .before .before .before .before .before .before .before .before .before .before .before .before .before .args .id) (c .before .before .before .before .before .before .before .before .before .before .before .before .before .before .before .args .ide) (c .before .before .before .before .before .before .before .before .before .before .before .before .before .before .before .args .sec) (c .before .before .before .before .before .before .before .before .before .before .before .before .before .before .before .args .sdt) (c .before .before .before .before .before .before .before .before .before .before .before .before .before .before .before .args .vcid) (c .before .before .before .before .before .before .before .before .before .before .before .before .before .before .before .args .af) (c .before .before .before .before .before .before .before .before .before .before .before .before .before .before .before .args .dl)) (now (c .before .before .before .before .before .before .before .before .before .before .before .before .before .before .before .args .payload)) (now (c .before .before .before .before .before .before .before .before .before .before .before .before .before .before .before .args .buffer)) e (c .before .before .before .before .before .before .put-xl .ensures) (c .before .before .put .ensures))
+
+returns-2 : tie.Need-returns-2
+returns-2 c =
+    let e = answers (XlTransmit (c .before .before .before .before .before .before .args .id) (c .before .before .before .before .before .before .args .ide) (c .before .before .before .before .before .before .args .sec) (c .before .before .before .before .before .before .args .sdt) (c .before .before .before .before .before .before .args .vcid) (c .before .before .before .before .before .before .args .af) (c .before .before .before .before .before .before .args .dl)) _ _ (c .before .before .before .xl-is-legal .ensures) (c .before .before .decide .ensures) in
+    (e, kept _ _ _ (sym e ∙ c .enum-told .given .1) refl)
+
+returns-3 : tie.Need-returns-3
+returns-3 c =
+    let e = answers (XlTransmit (c .before .before .before .before .before .before .args .id) (c .before .before .before .before .before .before .args .ide) (c .before .before .before .before .before .before .args .sec) (c .before .before .before .before .before .before .args .sdt) (c .before .before .before .before .before .before .args .vcid) (c .before .before .before .before .before .before .args .af) (c .before .before .before .before .before .before .args .dl)) _ _ (c .before .before .before .xl-is-legal .ensures) (c .before .before .decide .ensures) in
+    (e, kept _ _ _ (sym e ∙ c .enum-told2 .given .1) refl)
+
+pub write-xl-spec : {M : Type 1} → statement M
+write-xl-spec = tie.close (tie.spec (λ c κs. search needs) (λ c κs. search needs) (λ c. search needs) cast-put-xl put-xl-requires put-requires (λ c. search needs) (λ c. search needs) (λ c. search needs) returns returns-2 returns-3)
