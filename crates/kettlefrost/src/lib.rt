@@ -2,33 +2,25 @@
 ghost use mathlib.Core.Path.{_≡_};
 ghost use lib.ListN.{length};
 ghost use Rattle.decoder.specs.Reading.{readAt};
-ghost use Rattle.kettlefrost.specs.Flat.{row, flat, blank, named};
+ghost use Rattle.kettlefrost.specs.Flat.{flatRow, flat, named};
 ghost use Rattle.kettlefrost.specs.Calls.{readAnswer, dataAnswer, lengthWritten, writeAnswer, bufferAfterWrite};
 use decoder::Cursor;
 use decoder::Reading;
 use encoder::Written;
 use operation::Operation;
 
-// An operation: its code, and its fields; 0 where its kind has no such field. length is DL or n, error is Error Code.
+// An operation: its code, and its fields in the order of the table; 0 where its kind has no such field. word is AF, or the value
+// of a Configuration; length is DL or n; first to fourth are the one-byte fields.
 #[repr(C)]
 pub struct FlatOperation {
     pub code: u32,
     pub id: u32,
-    pub af: u32,
-    pub value: u32,
+    pub word: u32,
     pub length: u16,
-    pub ide: u8,
-    pub rtr: u8,
-    pub brs: u8,
-    pub esi: u8,
-    pub sec: u8,
-    pub sdt: u8,
-    pub vcid: u8,
-    pub error: u8,
-    pub flag: u8,
-    pub sender: u8,
-    pub kind: u8,
-    pub status: u8,
+    pub first: u8,
+    pub second: u8,
+    pub third: u8,
+    pub fourth: u8,
 }
 
 #[repr(C)]
@@ -57,28 +49,28 @@ enum Named {
     Unknown,
 }
 
-// A record with a code, and all fields 0.
-fn coded(code: u32) -> FlatOperation
-    ensures { λ r. ⌜ r ≡ row code 0 0 0 0 0 0 0 0 0 0 0 0 0 0 0 0 ⌝ }
+// One row of the table of kinds.
+fn row(
+    code: u32,
+    id: u32,
+    word: u32,
+    length: u16,
+    first: u8,
+    second: u8,
+    third: u8,
+    fourth: u8,
+) -> FlatOperation
+    ensures { λ r. ⌜ r ≡ flatRow code id word length first second third fourth ⌝ }
 {
     FlatOperation {
         code,
-        id: 0,
-        af: 0,
-        value: 0,
-        length: 0,
-        ide: 0,
-        rtr: 0,
-        brs: 0,
-        esi: 0,
-        sec: 0,
-        sdt: 0,
-        vcid: 0,
-        error: 0,
-        flag: 0,
-        sender: 0,
-        kind: 0,
-        status: 0,
+        id,
+        word,
+        length,
+        first,
+        second,
+        third,
+        fourth,
     }
 }
 
@@ -86,34 +78,15 @@ fn flatten(op: Operation) -> FlatOperation
     ensures { λ r. ⌜ r ≡ flat op ⌝ }
 {
     match op {
-        Operation::FormatError { n } => {
-            let mut r = coded(0x01);
-            r.length = n;
-            r
-        }
-        Operation::CanTransmit { id, ide, rtr, dl } => {
-            let mut r = coded(0x10);
-            r.id = id;
-            r.ide = ide;
-            r.rtr = rtr;
-            r.length = dl;
-            r
-        }
+        Operation::FormatError { n } => row(0x01, 0, 0, n, 0, 0, 0, 0),
+        Operation::CanTransmit { id, ide, rtr, dl } => row(0x10, id, 0, dl, ide, rtr, 0, 0),
         Operation::FdTransmit {
             id,
             ide,
             brs,
             esi,
             dl,
-        } => {
-            let mut r = coded(0x11);
-            r.id = id;
-            r.ide = ide;
-            r.brs = brs;
-            r.esi = esi;
-            r.length = dl;
-            r
-        }
+        } => row(0x11, id, 0, dl, ide, brs, esi, 0),
         Operation::XlTransmit {
             id,
             ide,
@@ -122,52 +95,18 @@ fn flatten(op: Operation) -> FlatOperation
             vcid,
             af,
             dl,
-        } => {
-            let mut r = coded(0x12);
-            r.id = id;
-            r.ide = ide;
-            r.sec = sec;
-            r.sdt = sdt;
-            r.vcid = vcid;
-            r.af = af;
-            r.length = dl;
-            r
-        }
-        Operation::Confirm { id } => {
-            let mut r = coded(0x20);
-            r.id = id;
-            r
-        }
-        Operation::ArbitrationLost { id } => {
-            let mut r = coded(0x30);
-            r.id = id;
-            r
-        }
+        } => row(0x12, id, af, dl, ide, sec, sdt, vcid),
+        Operation::Confirm { id } => row(0x20, id, 0, 0, 0, 0, 0, 0),
+        Operation::ArbitrationLost { id } => row(0x30, id, 0, 0, 0, 0, 0, 0),
         Operation::BusError {
             id,
             error_code,
             error_flag,
             is_sender,
-        } => {
-            let mut r = coded(0x31);
-            r.id = id;
-            r.error = error_code;
-            r.flag = error_flag;
-            r.sender = is_sender;
-            r
-        }
-        Operation::Configuration { kind, value } => {
-            let mut r = coded(0x40);
-            r.kind = kind;
-            r.value = value;
-            r
-        }
-        Operation::Status { status } => {
-            let mut r = coded(0x41);
-            r.status = status;
-            r
-        }
-        Operation::Wakeup => coded(0x42),
+        } => row(0x31, id, 0, 0, error_code, error_flag, is_sender, 0),
+        Operation::Configuration { kind, value } => row(0x40, 0, value, 0, kind, 0, 0, 0),
+        Operation::Status { status } => row(0x41, 0, 0, 0, status, 0, 0, 0),
+        Operation::Wakeup => row(0x42, 0, 0, 0, 0, 0, 0, 0),
     }
 }
 
@@ -179,39 +118,39 @@ fn operation_of(f: FlatOperation) -> Named
         0x01 => Named::Known(Operation::FormatError { n: f.length }),
         0x10 => Named::Known(Operation::CanTransmit {
             id: f.id,
-            ide: f.ide,
-            rtr: f.rtr,
+            ide: f.first,
+            rtr: f.second,
             dl: f.length,
         }),
         0x11 => Named::Known(Operation::FdTransmit {
             id: f.id,
-            ide: f.ide,
-            brs: f.brs,
-            esi: f.esi,
+            ide: f.first,
+            brs: f.second,
+            esi: f.third,
             dl: f.length,
         }),
         0x12 => Named::Known(Operation::XlTransmit {
             id: f.id,
-            ide: f.ide,
-            sec: f.sec,
-            sdt: f.sdt,
-            vcid: f.vcid,
-            af: f.af,
+            ide: f.first,
+            sec: f.second,
+            sdt: f.third,
+            vcid: f.fourth,
+            af: f.word,
             dl: f.length,
         }),
         0x20 => Named::Known(Operation::Confirm { id: f.id }),
         0x30 => Named::Known(Operation::ArbitrationLost { id: f.id }),
         0x31 => Named::Known(Operation::BusError {
             id: f.id,
-            error_code: f.error,
-            error_flag: f.flag,
-            is_sender: f.sender,
+            error_code: f.first,
+            error_flag: f.second,
+            is_sender: f.third,
         }),
         0x40 => Named::Known(Operation::Configuration {
-            kind: f.kind,
-            value: f.value,
+            kind: f.first,
+            value: f.word,
         }),
-        0x41 => Named::Known(Operation::Status { status: f.status }),
+        0x41 => Named::Known(Operation::Status { status: f.first }),
         0x42 => Named::Known(Operation::Wakeup),
         _ => Named::Unknown,
     }
@@ -225,7 +164,7 @@ pub extern "C" fn kf_read(buffer: &[u8], at: usize) -> ReadAnswer
     let reading = (Cursor { at }).read(buffer);
     match reading {
         Reading::AtEnd => {
-            let operation = coded(0);
+            let operation = row(0, 0, 0, 0, 0, 0, 0, 0);
             ReadAnswer {
                 end: 1,
                 fault: 0,
@@ -234,7 +173,7 @@ pub extern "C" fn kf_read(buffer: &[u8], at: usize) -> ReadAnswer
             }
         }
         Reading::Faulty { number, next } => {
-            let operation = coded(0);
+            let operation = row(0, 0, 0, 0, 0, 0, 0, 0);
             let place = next.at;
             ReadAnswer {
                 end: 0,

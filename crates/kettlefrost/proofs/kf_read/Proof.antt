@@ -4,10 +4,10 @@ use Rattle.kettlefrost.proofs.kf_read.Statement.{statement}
 use Rattle.kettlefrost.proofs.kf_read.Tie as tie
 
 returns : tie.Need-returns
-returns c = rw (← c .before .before .before .read .ensures, c .before .enum-told .given .1, c .coded .ensures)
+returns c = rw (← c .before .before .before .read .ensures, c .before .enum-told .given .1, c .row .ensures)
 
 returns-2 : tie.Need-returns-2
-returns-2 c = rw (← c .before .before .before .before .read .ensures, c .before .before .reading .given .1, c .coded2 .ensures)
+returns-2 c = rw (← c .before .before .before .before .read .ensures, c .before .before .reading .given .1, c .row2 .ensures)
 
 returns-3 : tie.Need-returns-3
 returns-3 c = rw (← c .before .before .before .before .read .ensures, c .before .before .reading2 .given .1, c .flatten .ensures)

@@ -1,0 +1,239 @@
+//! Throughput of the proved library against the second codec: the same input,
+//! in the same run, given as ratios.
+//!
+//! The library is reached by a call that the compiler cannot see through. The
+//! second codec is measured twice: behind a call of the same kind, and inlined
+//! into the loop.
+
+use std::hint::black_box;
+use std::time::Instant;
+
+use second::codec::{self, Operation, Reading};
+use second::generate::Generator;
+use second::library::{self, KfOperation};
+
+const STREAM_BYTES: usize = 64 * 1024;
+const SAMPLES: usize = 21;
+const SAMPLE_SECONDS: f64 = 0.025;
+const SEED: u64 = 11_898;
+
+/// The same operations in both codecs' forms and as bytes.
+struct Stream {
+    name: &'static str,
+    bytes: Vec<u8>,
+    operations: Vec<(Operation, Vec<u8>)>,
+    flat: Vec<(KfOperation, Vec<u8>)>,
+}
+
+impl Stream {
+    fn new(name: &'static str, mut source: impl FnMut() -> (Operation, Vec<u8>)) -> Stream {
+        let mut stream =
+            Stream { name, bytes: Vec::new(), operations: Vec::new(), flat: Vec::new() };
+        while stream.bytes.len() < STREAM_BYTES {
+            let (op, data) = source();
+            let start = stream.bytes.len();
+            stream.bytes.resize(start + op.header_length() + data.len(), 0);
+            op.put(&data, &mut stream.bytes[start..]);
+            stream.flat.push((KfOperation::from(&op), data.clone()));
+            stream.operations.push((op, data));
+        }
+        stream
+    }
+
+    /// CAN Transmits of 8 bytes.
+    fn can() -> Stream {
+        let mut id = 0;
+        Stream::new("CAN Transmit, 8 bytes", || {
+            id = (id + 1) % 2048;
+            (Operation::CanTransmit { id, ide: 0, rtr: 0, length: 8 }, vec![id as u8; 8])
+        })
+    }
+
+    /// All ten kinds in random order, with data of up to 256 bytes.
+    fn mixed() -> Stream {
+        let mut generator = Generator::new(SEED);
+        Stream::new("ten kinds mixed", || loop {
+            let (op, data) = generator.sound_with_data();
+            if data.len() <= 256 {
+                return (op, data);
+            }
+        })
+    }
+}
+
+// A result larger than two registers comes back through a pointer under the
+// Rust calling convention as under C's, and slices go as pointer and length
+// under both. So a call that is not inlined costs here what it costs with the
+// library, and each side still answers in its natural form.
+
+#[inline(never)]
+fn read_by_call(buf: &[u8], at: usize) -> Reading {
+    codec::read(buf, at)
+}
+
+#[inline(never)]
+fn write_by_call(op: &Operation, data: &[u8], buf: &mut [u8]) -> Result<usize, u8> {
+    codec::write(op, data, buf)
+}
+
+/// A sum of the fields that the kind has.
+#[inline]
+fn sum(op: &Operation) -> u64 {
+    let add = |words: [u32; 3], bytes: [u8; 4]| {
+        words.map(u64::from).iter().sum::<u64>() + bytes.map(u64::from).iter().sum::<u64>()
+    };
+    match *op {
+        Operation::FormatError { length } => length.into(),
+        Operation::CanTransmit { id, ide, rtr, length } => {
+            add([id, length.into(), 0], [ide, rtr, 0, 0])
+        }
+        Operation::FdTransmit { id, ide, brs, esi, length } => {
+            add([id, length.into(), 0], [ide, brs, esi, 0])
+        }
+        Operation::XlTransmit { id, ide, sec, sdt, vcid, af, length } => {
+            add([id, af, length.into()], [ide, sec, sdt, vcid])
+        }
+        Operation::Confirm { id } | Operation::ArbitrationLost { id } => id.into(),
+        Operation::BusError { id, error_code, error_flag, is_sender } => {
+            add([id, 0, 0], [error_code, error_flag, is_sender, 0])
+        }
+        Operation::Configuration { kind, value } => add([value, 0, 0], [kind, 0, 0, 0]),
+        Operation::Status { status } => status.into(),
+        Operation::Wakeup => 0,
+    }
+}
+
+/// Reads a whole stream with the library. The flat answer is taken apart by its
+/// code, as the other side's is by its case.
+fn decode_library(buf: &[u8]) -> u64 {
+    let (mut at, mut total) = (0, 0);
+    loop {
+        let reading = library::read(buf, at);
+        match Operation::try_from(&reading.operation) {
+            Ok(op) => total += sum(&op),
+            Err(_) => return total,
+        }
+        at = reading.next;
+    }
+}
+
+#[inline(always)]
+fn decode_second(buf: &[u8], read: impl Fn(&[u8], usize) -> Reading) -> u64 {
+    let (mut at, mut total) = (0, 0);
+    while let Reading::Found { op, next } = read(buf, at) {
+        total += sum(&op);
+        at = next;
+    }
+    total
+}
+
+fn encode_library(stream: &Stream, out: &mut [u8]) -> u64 {
+    let mut at = 0;
+    for (op, data) in &stream.flat {
+        at += library::write(*op, data, &mut out[at..]).length;
+    }
+    at as u64
+}
+
+#[inline(always)]
+fn encode_second(
+    stream: &Stream,
+    out: &mut [u8],
+    write: impl Fn(&Operation, &[u8], &mut [u8]) -> Result<usize, u8>,
+) -> u64 {
+    let mut at = 0;
+    for (op, data) in &stream.operations {
+        at += write(op, data, &mut out[at..]).unwrap_or(0);
+    }
+    at as u64
+}
+
+/// One way to go through a stream once; gives a number to check it by.
+type Pass<'a> = Box<dyn FnMut() -> u64 + 'a>;
+
+/// Seconds for each pass, over `passes` of them.
+fn time(pass: &mut Pass, passes: usize) -> f64 {
+    let start = Instant::now();
+    for _ in 0..passes {
+        black_box(pass());
+    }
+    start.elapsed().as_secs_f64() / passes as f64
+}
+
+/// How many passes make a sample.
+fn passes_in_sample(pass: &mut Pass) -> usize {
+    let mut passes = 1;
+    loop {
+        let seconds = time(pass, passes) * passes as f64;
+        if seconds >= SAMPLE_SECONDS {
+            return passes;
+        }
+        let missing = (SAMPLE_SECONDS / seconds.max(1e-6)).clamp(1.2, 10.0);
+        passes = (passes as f64 * missing).ceil() as usize;
+    }
+}
+
+/// Median, smallest and largest.
+fn spread(mut values: Vec<f64>) -> (f64, f64, f64) {
+    values.sort_by(f64::total_cmp);
+    (values[values.len() / 2], values[0], values[values.len() - 1])
+}
+
+/// Measures the three ways in turn, sample by sample, and prints their row.
+fn measure(what: &str, stream: &Stream, mut ways: [Pass; 3]) {
+    let [library, by_call, inlined] = ways.each_mut().map(|pass| pass());
+    assert!(library == by_call && library == inlined, "{what}: the ways differ");
+
+    let passes = ways.each_mut().map(passes_in_sample);
+    let mut seconds = [const { Vec::new() }; 3];
+    for _ in 0..SAMPLES {
+        for way in 0..3 {
+            seconds[way].push(time(&mut ways[way], passes[way]));
+        }
+    }
+    let [library, by_call, inlined] = &seconds;
+    let nanoseconds =
+        |seconds: &Vec<f64>| spread(seconds.clone()).0 * 1e9 / stream.operations.len() as f64;
+    println!("{what}, {}:", stream.name);
+    println!("  library          {:7.2} ns per operation", nanoseconds(library));
+    for (name, second) in [("Rust by call", by_call), ("Rust inlined", inlined)] {
+        let ratios = second.iter().zip(library).map(|(second, library)| second / library);
+        let (median, smallest, largest) = spread(ratios.collect());
+        println!(
+            "  {name:<16} {:7.2} ns per operation, ratio {median:.2} ({smallest:.2}..{largest:.2})",
+            nanoseconds(second)
+        );
+    }
+}
+
+fn measure_decode(stream: &Stream) {
+    let bytes = &stream.bytes[..];
+    let ways: [Pass; 3] = [
+        Box::new(|| decode_library(black_box(bytes))),
+        Box::new(|| decode_second(black_box(bytes), read_by_call)),
+        Box::new(|| decode_second(black_box(bytes), codec::read)),
+    ];
+    measure("decode", stream, ways);
+}
+
+fn measure_encode(stream: &Stream) {
+    let mut outs = [const { Vec::new() }; 3];
+    outs.fill(vec![0; stream.bytes.len()]);
+    let [out_1, out_2, out_3] = &mut outs;
+    let ways: [Pass; 3] = [
+        Box::new(|| encode_library(black_box(stream), black_box(out_1))),
+        Box::new(|| encode_second(black_box(stream), black_box(out_2), write_by_call)),
+        Box::new(|| encode_second(black_box(stream), black_box(out_3), codec::write)),
+    ];
+    measure("encode", stream, ways);
+    assert!(outs.iter().all(|out| *out == stream.bytes), "encode: the bytes differ");
+}
+
+fn main() {
+    println!("ratio: library throughput / Rust throughput, median (min..max) of {SAMPLES} samples");
+    for stream in [Stream::can(), Stream::mixed()] {
+        println!("{} operations, {} bytes", stream.operations.len(), stream.bytes.len());
+        measure_decode(&stream);
+        measure_encode(&stream);
+    }
+}
