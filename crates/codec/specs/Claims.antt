@@ -29,7 +29,7 @@ WrittenReads =
     → Typed op
     → answerOf op (length payload) (length buffer) ≡ Done n
     → (before rest : List ℕ)
-    → ReadsAs (before ++ take n (writtenOf op payload buffer) ++ rest) (length before) op payload n
+    → ReadsAs (before ++ (take n (writtenOf op payload buffer) ++ rest)) (length before) op payload n
 
 -- op with its data is written to a buffer as the n bytes given
 pub record WritesAs (op : Operation) (payload buffer bytes : List ℕ) (n : ℕ) : Type 0 where

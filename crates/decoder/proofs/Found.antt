@@ -99,14 +99,20 @@ stands s op n e =
 pub found : {s : List ℕ} {op : Operation} {n : ℕ} → front s ≡ Found op n → Stands s op n
 found {s} {op} {n} e = stands s op n e
 
+-- the length field of an operation's own bytes is their length
+pub stated-own : (s : List ℕ) {op : Operation} {n : ℕ} → Stands s op n → statedLength (take n s) ≡ n
+stated-own s {op} {n} f =
+    let l : length (take n s) ≡ n = length-take-le n s (f .within) in
+    let b : statedLength (take n s ++ drop n s) ≡ statedLength (take n s) =
+    number-prefix 4 4 (take n s) (drop n s) (omega (arith, f .least)) in
+    sym (rw (take-append-drop n s) at b) ∙ f .stated
+
 -- an operation's own bytes are found as that operation, whatever follows them
 pub found-prefix : (s rest : List ℕ) {op : Operation} {n : ℕ} → front s ≡ Found op n → front (take n s ++ rest) ≡ Found op n
 found-prefix s rest {op} {n} e =
     let f = found e in
     let l : length (take n s) ≡ n = length-take-le n s (f .within) in
     let a : statedLength (take n s ++ rest) ≡ statedLength (take n s) = number-prefix 4 4 (take n s) rest (omega (arith, f .least)) in
-    let b : statedLength (take n s ++ drop n s) ≡ statedLength (take n s) = number-prefix 4 4 (take n s) (drop n s) (omega (arith, f .least)) in
-    let d : statedLength s ≡ statedLength (take n s) = rw (take-append-drop n s) at b in
-    front-is (take n s ++ rest) n (f .least) (rw length-append (omega arith)) (a ∙ sym d ∙ f .stated)
+    front-is (take n s ++ rest) n (f .least) (rw length-append (omega arith)) (a ∙ stated-own s f)
     ∙ ap decode (take-at (take n s) rest n l)
     ∙ f .decoded

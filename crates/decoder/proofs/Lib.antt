@@ -2,3 +2,5 @@ pub mod Forward
 pub mod Found
 pub mod Streams
 pub mod Payload
+pub mod Encoded
+pub mod Decoded

@@ -6,14 +6,15 @@ use mathlib.Core.List.{List, [], _∷_, _++_, append-nil}
 use Prim.Native.Nat.{ℕ, _+_, _-_, _≤_, _<_}
 use native.Mathlib.Omega.{arith}
 use lib.Dec.{leb, eqb}
-use lib.ListN.{length}
-use borrow.Author.Tests.{leb-true, eqb-true}
+use lib.ListN.{length, take, drop}
+use lib.Seq.{take-at}
+use borrow.Author.Tests.{leb-true, eqb-true, le-leb, eq-eqb}
 use Rattle.operation.specs.Format.{headLength, dataLength, lengthOf, header, encode}
 use Rattle.operation.specs.Rules.{allAfter, rules, legal}
 use Rattle.operation.specs.declared.Operation.{Operation}
 use Rattle.operation.specs.declared.Operation.the-variants.{FormatError, Wakeup}
 use Rattle.operation.proofs.Tests.{both}
-use Rattle.operation.proofs.Sizes.{head-small, header-length}
+use Rattle.operation.proofs.Sizes.{head-small, header-length, encode-length}
 use Rattle.encoder.specs.Writing.{decision, answerOf, over, bufferAfter, writtenOf}
 use Rattle.encoder.specs.declared.Written.{Written}
 use Rattle.encoder.specs.declared.Written.the-variants.{Done, RuleBroken, BufferTooSmall}
@@ -88,3 +89,19 @@ pub kept : (op : Operation) (payload l : List ℕ) {w : Written} → answerOf op
     → l ≡ bufferAfter w (encode op payload) l → l ≡ writtenOf op payload l
 unfolding writtenOf
 kept op payload l e h = rw e h
+
+-- what is accepted
+pub accepts : (op : Operation) (given room : ℕ) → legal op ≡ true → given ≡ dataLength op → given ≤ 65535 → lengthOf op ≤ room
+    → answerOf op given room ≡ Done (lengthOf op)
+unfolding answerOf decision
+accepts op given room l w s r =
+    rw (l, eq-eqb given (dataLength op) w, le-leb given 65535 s, le-leb (lengthOf op) room r)
+
+-- the bytes that an accepted write leaves at the front are the operation's
+pub written-bytes : (op : Operation) (payload l : List ℕ) {n : ℕ} → answerOf op (length payload) (length l) ≡ Done n
+    → take n (writtenOf op payload l) ≡ encode op payload
+unfolding writtenOf over
+written-bytes op payload l {n} e =
+    let a = accepted e in
+    let size : length (encode op payload) ≡ n = encode-length op payload (a .lawful) ∙ omega (arith, a .size, a .whole) in
+    rw e (take-at (encode op payload) (drop (0 + length (encode op payload)) l) n size)
