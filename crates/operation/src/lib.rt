@@ -146,7 +146,7 @@ pub fn configuration_length(kind: u8) -> usize
     if kind == ARBITRATION_LOST_BEHAVIOR {
         return 10;
     }
-    if (CAN_BAUDRATE <= kind) & (kind <= CAN_XL_BAUDRATE) {
+    if (kind == CAN_BAUDRATE) | (kind == CAN_FD_BAUDRATE) | (kind == CAN_XL_BAUDRATE) {
         return 13;
     }
     0
