@@ -1,63 +1,35 @@
+-- The loop's invariant: the buffer's length is as it was. Each turn ends further on; a sum of two positions fits.
+use Prim.Native.Nat.{_-_}
+use borrow.Author.Needs.{needs}
+use lib.ListN.{length}
+use mathlib.Core.Path.{_≡_, _∙_, refl}
+use native.Mathlib.Omega.{arith}
 use Rattle.decode.proofs.read_all.Statement.{statement}
 use Rattle.decode.proofs.read_all.Tie as tie
-use Rattle.decode.proofs.read_all.Reads as reads
-use Rattle.decode.proofs.read_all.Lts as lts
-use Rattle.decode.proofs.read_from.Reads as read-from-reads
-use Rattle.io.proofs.count.Reads as count-reads
 
 abbrev Inv-loop : tie.InvT-loop
-Inv-loop fd buffer₀ done₀ buffer done = ?
+Inv-loop fd buffer₀ done₀ buffer done = length buffer ≡ length buffer₀
 
 abbrev μ-loop : tie.MeasureT-loop
-μ-loop fd buffer₀ done₀ buffer done = ?
+μ-loop fd buffer₀ done₀ buffer done = length buffer - done
 
--- src/main.rt:67:5
-loop-holds : tie.Need-loop-holds Inv-loop μ-loop
-loop-holds c = ?
-
--- src/main.rt:68:13
-read-from-requires : tie.Need-read-from-requires Inv-loop μ-loop
-read-from-requires c κs = ?
-
--- src/main.rt:70:13
 same-length : tie.Need-same-length Inv-loop μ-loop
-same-length c = ?
+same-length c = let b = c .before .before in b .buffer .given ∙ b .before .before .before .before .loop .inv
 
--- src/main.rt:70:13
-returns : tie.Need-returns Inv-loop μ-loop
-returns c = ?
-
--- src/main.rt:72:13
-count-requires : tie.Need-count-requires Inv-loop μ-loop
-count-requires c κs = ?
-
--- src/main.rt:76:9
 add-done : tie.Need-add-done Inv-loop μ-loop
-add-done c = ?
+add-done c =
+    let b = c .before .before .before .before .before in
+    let l = b .before .before .before .before in
+    omega (arith, c .before .count .ensures .0 .0, b .buffer .given, l .loop .inv, l .before .before .good .1 .0 .1)
 
--- src/main.rt:67:5
 loop-less : tie.Need-loop-less Inv-loop μ-loop
-loop-less c = ?
+loop-less c = let b = c .before .before .before .before .before in omega (arith, b .buffer .given)
 
--- src/main.rt:67:5
 loop-again : tie.Need-loop-again Inv-loop μ-loop
-loop-again c = ?
+loop-again c = let b = c .before .before .before .before .before in b .buffer .given ∙ b .before .before .before .before .loop .inv
 
--- src/main.rt:65:1
-same-length-2 : tie.Need-same-length-2 Inv-loop μ-loop
-same-length-2 c = ?
-
--- src/main.rt:65:1
-returns-2 : tie.Need-returns-2 Inv-loop μ-loop
-returns-2 c = ?
-
--- src/main.rt:65:1
 same-length-3 : tie.Need-same-length-3 Inv-loop μ-loop
-same-length-3 c = ?
-
--- src/main.rt:65:1
-returns-3 : tie.Need-returns-3 Inv-loop μ-loop
-returns-3 c = ?
+same-length-3 c = let b = c .before .before .before .before .before in b .buffer .given ∙ b .before .before .before .before .loop .inv
 
 pub read-all-spec : {M : Type 1} → statement M
 read-all-spec =
@@ -65,15 +37,15 @@ read-all-spec =
     (tie.spec
     Inv-loop
     μ-loop
-    loop-holds
-    read-from-requires
+    (λ c. refl)
+    (λ c κs. search needs)
     same-length
-    returns
-    count-requires
+    (λ c. search needs)
+    (λ c κs. search needs)
     add-done
     loop-less
     loop-again
-    same-length-2
-    returns-2
+    (λ c. search needs)
+    (λ c. search needs)
     same-length-3
-    returns-3)
+    (λ c. search needs))
