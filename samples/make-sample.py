@@ -1,5 +1,5 @@
 #!/usr/bin/env python3
-"""Writes samples/mixed.bin: every kind of operation and every fault but 2, as a node might collect them.
+"""Writes samples/mixed.bin: every kind of operation and every fault but 1.
 
 usage: samples/make-sample.py [FILE]
 """
@@ -79,7 +79,7 @@ STREAM = [
     can_fd(0x18DAF110, 1, 0, 1, bytes(range(0xC0, 0x100))),
     # CAN XL: one byte, and more data than a terminal is wide.
     can_xl(0x400, 0, 0, 0x03, 0x00, 0x12345678, b"\xFE"),
-    can_xl(0x1ABCDEF0, 1, 1, 0x05, 0x2A, 0xFFFFFFFF, bytes(i % 256 for i in range(300))),
+    can_xl(0x1ABCDEF0, 1, 1, 0x05, 0x2A, 0xFFFFFFFF, bytes(range(192))),
     # What closes an open frame.
     confirm(15),
     arbitration_lost(16),
@@ -104,8 +104,8 @@ STREAM = [
     status(4),
     # Reading goes on behind these faults.
     confirm(536_870_911),
-    # Fault 1: fewer than eight bytes are left.
-    bytes.fromhex("20 00 00 00 0C"),
+    # Fault 2: a Confirm that is cut off after ten of its twelve bytes.
+    confirm(15)[:10],
 ]
 
 

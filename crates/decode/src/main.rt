@@ -3,7 +3,10 @@ mod line;
 mod names;
 mod report;
 
-use decoder::{Cursor, Reading};
+ghost use Prim.Native.Nat.{_≤_, _<_};
+ghost use lib.ListN.{length};
+use decoder::Cursor;
+use decoder::Reading;
 use libc::STDERR_FILENO;
 
 // One byte more than a stream may have: a longer file fills it.
@@ -15,25 +18,18 @@ enum Input {
     Failed,
 }
 
-// The bytes from one position to another; none where these lie outside.
-fn part(s: &[u8], from: usize, to: usize) -> &[u8] {
-    if to < from {
-        return &s[..0];
-    }
-    if s.len() < to {
-        return &s[..0];
-    }
-    &s[from..to]
-}
-
 // Prints what stands at a position, and gives the position behind it.
-fn print_next(s: &[u8], at: usize) -> usize {
+fn print_next(s: &[u8], at: usize) -> usize
+    requires { ⌜ at < length (now s) ⌝ }
+    ensures { λ r. ⌜ (at < r) × (r ≤ length (now (s .entry))) ⌝ }
+{
     let cursor = Cursor { at };
     match cursor.read(s) {
         Reading::AtEnd => s.len(),
         Reading::Faulty { number, next } => {
-            report::fault(at, number, part(s, at, next.at));
-            next.at
+            let end = next.at;
+            report::fault(at, number, &s[at..end]);
+            end
         }
         Reading::Read { op, next } => {
             report::operation(at, op, decoder::data(s, op, next));
@@ -45,11 +41,7 @@ fn print_next(s: &[u8], at: usize) -> usize {
 fn print_all(s: &[u8]) {
     let mut at = 0;
     while at < s.len() {
-        let next = print_next(s, at);
-        if next <= at {
-            return;
-        }
-        at = next;
+        at = print_next(s, at);
     }
 }
 

@@ -72,14 +72,27 @@ fn fd_transmit(at: usize, id: u32, ide: u8, brs: u8, esi: u8, dl: u16, data: &[u
         .end();
 }
 
-fn xl_transmit(at: usize, id: u32, ide: u8, sec: u8, sdt: u8, vcid: u8, af: u32, dl: u16, data: &[u8]) {
+fn xl_transmit(
+    at: usize,
+    id: u32,
+    ide: u8,
+    sec: u8,
+    sdt: u8,
+    vcid: u8,
+    af: u32,
+    dl: u16,
+    data: &[u8],
+) {
     transmit(at, b"CAN XL Transmit", id, ide)
         .number(b"Sec", sec as u32, 1)
         .name(b"SDT")
+        .text(b"0x")
         .hex8(sdt)
         .name(b"VCID")
+        .text(b"0x")
         .hex8(vcid)
         .name(b"AF")
+        .text(b"0x")
         .hex32(af)
         .number(b"DL", dl as u32, 4)
         .bytes(data)

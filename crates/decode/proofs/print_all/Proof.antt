@@ -1,4 +1,4 @@
--- Each turn ends further on, and before the end of the buffer.
+-- Each turn ends further on.
 use Prim.Native.Nat.{_-_}
 use borrow.Author.Needs.{needs}
 use lib.ListN.{length}
@@ -12,4 +12,13 @@ abbrev μ-loop : tie.MeasureT-loop
 μ-loop s at₀ at = length s - at
 
 pub print-all-spec : {M : Type 1} → statement M
-print-all-spec = tie.close (tie.spec Inv-loop μ-loop (λ c. tt) (λ c κs. search needs) (λ c. tt) (λ c. search needs) (λ c. tt) (λ c. tt))
+print-all-spec =
+    tie.close
+    (tie.spec
+    Inv-loop
+    μ-loop
+    (λ c. tt)
+    (λ c κs. search needs)
+    (λ c. search needs)
+    (λ c. tt)
+    (λ c. tt))
