@@ -40,7 +40,7 @@ check 'two arguments' "$work/none" "$work/none" "$work/none"
 says usage
 head -c 65537 /dev/zero >"$work/long"
 check 'a file that is too long' "$work/none" "$work/long"
-says '65,536'
+says '65536'
 head -c 65536 /dev/zero >"$work/full"
 "$decode" "$work/full" >"$work/out" 2>"$work/err"
 [ "$(wc -l <"$work/out")" -eq 1 ] && [ ! -s "$work/err" ] || {
