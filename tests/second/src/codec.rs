@@ -23,6 +23,17 @@ pub const CONFIGURATION: u32 = 0x40;
 pub const STATUS: u32 = 0x41;
 pub const WAKEUP: u32 = 0x42;
 
+pub const ERROR_ACTIVE: u8 = 1;
+pub const ERROR_PASSIVE: u8 = 2;
+pub const BUS_OFF: u8 = 3;
+
+pub const PRIMARY_ERROR_FLAG: u8 = 1;
+pub const SECONDARY_ERROR_FLAG: u8 = 2;
+
+/// Values of a Configuration of kind 4.
+pub const BUFFER_AND_RETRANSMIT: u32 = 1;
+pub const DISCARD_AND_NOTIFY: u32 = 2;
+
 /// An operation without its data bytes.
 ///
 /// Fields take any value of their width, so that an operation that breaks a
@@ -93,6 +104,22 @@ pub fn read(buf: &[u8], at: usize) -> Reading {
         Ok(_) => fault(5, next),
         Err(number) => fault(number, next),
     }
+}
+
+/// The operations of a buffer in their order, each with the bytes that it
+/// takes up; a fault stands as its number.
+pub fn operations(buf: &[u8]) -> impl Iterator<Item = (Result<Operation, u8>, &[u8])> {
+    let mut at = 0;
+    std::iter::from_fn(move || {
+        let (op, next) = match read(buf, at) {
+            Reading::End => return None,
+            Reading::Fault { number, next } => (Err(number), next),
+            Reading::Found { op, next } => (Ok(op), next),
+        };
+        let bytes = &buf[at..next];
+        at = next;
+        Some((op, bytes))
+    })
 }
 
 /// Takes apart what follows code and length, and holds the length against the
@@ -251,6 +278,16 @@ impl Operation {
         }
     }
 
+    /// The ID of a Transmit of any of the three kinds.
+    pub fn transmit_id(&self) -> Option<u32> {
+        match *self {
+            Operation::CanTransmit { id, .. }
+            | Operation::FdTransmit { id, .. }
+            | Operation::XlTransmit { id, .. } => Some(id),
+            _ => None,
+        }
+    }
+
     /// Whether every content rule holds.
     #[inline(always)]
     pub fn is_sound(&self) -> bool {
@@ -289,7 +326,7 @@ impl Operation {
             }
             Operation::BusError { id, error_code, error_flag, is_sender } => {
                 rule(Rule::Id, id <= LARGEST_ID);
-                rule(Rule::ErrorCode, (1..=6).contains(&error_code));
+                rule(Rule::ErrorCode, is_error_code(error_code));
                 rule(Rule::ErrorFlag, (1..=2).contains(&error_flag));
                 rule(Rule::IsSender, is_sender <= 1);
             }
@@ -301,6 +338,13 @@ impl Operation {
             Operation::Status { status } => rule(Rule::Status, (1..=3).contains(&status)),
             Operation::FormatError { .. } | Operation::Wakeup => {}
         }
+    }
+
+    /// The bytes of the operation with `data`. The content rules are not asked.
+    pub fn encode(&self, data: &[u8]) -> Vec<u8> {
+        let mut out = vec![0; self.header_length() + data.len()];
+        self.put(data, &mut out);
+        out
     }
 
     /// Lays the operation out in `out`, whose length is that of header and
@@ -353,6 +397,11 @@ fn check_id(rule: &mut impl FnMut(Rule, bool), id: u32, ide: u8) {
     rule(Rule::ExtendedId, ide != 1 || id <= LARGEST_ID);
 }
 
+/// Whether the table of Error Codes has this value.
+pub fn is_error_code(code: u8) -> bool {
+    (1..=6).contains(&code)
+}
+
 fn is_fd_length(length: u16) -> bool {
     matches!(length, 0..=8 | 12 | 16 | 20 | 24 | 32 | 48 | 64)
 }
@@ -384,10 +433,7 @@ mod tests {
 
     /// The bytes of an operation, sound or not.
     fn bytes(op: Operation) -> Vec<u8> {
-        let data = vec![0xD5; op.data_length()];
-        let mut out = vec![0; op.header_length() + data.len()];
-        op.put(&data, &mut out);
-        out
+        op.encode(&vec![0xD5; op.data_length()])
     }
 
     fn fault(buf: &[u8]) -> Option<(u8, usize)> {

@@ -2,6 +2,7 @@
 
 use crate::codec::{self, Operation, Rule};
 use crate::library::KfOperation;
+use crate::random::Random;
 
 /// One input.
 pub enum Case {
@@ -74,56 +75,6 @@ pub fn data_start(code: u32) -> Option<usize> {
 
 const FD_LENGTHS: [u16; 16] = [0, 1, 2, 3, 4, 5, 6, 7, 8, 12, 16, 20, 24, 32, 48, 64];
 
-/// A splitmix64 generator.
-struct Random(u64);
-
-impl Random {
-    fn next(&mut self) -> u64 {
-        self.0 = self.0.wrapping_add(0x9E37_79B9_7F4A_7C15);
-        let mut z = self.0;
-        z = (z ^ (z >> 30)).wrapping_mul(0xBF58_476D_1CE4_E5B9);
-        z = (z ^ (z >> 27)).wrapping_mul(0x94D0_49BB_1331_11EB);
-        z ^ (z >> 31)
-    }
-
-    /// A number below `bound`.
-    fn below(&mut self, bound: usize) -> usize {
-        ((u128::from(self.next()) * bound as u128) >> 64) as usize
-    }
-
-    /// Once in `n` times.
-    fn once_in(&mut self, n: usize) -> bool {
-        self.below(n) == 0
-    }
-
-    fn pick<T: Copy>(&mut self, from: &[T]) -> T {
-        from[self.below(from.len())]
-    }
-
-    fn byte(&mut self) -> u8 {
-        self.next() as u8
-    }
-
-    fn word(&mut self) -> u32 {
-        self.next() as u32
-    }
-
-    /// Of `edges`, or any value.
-    fn edge(&mut self, edges: &[u32]) -> u32 {
-        if self.once_in(3) {
-            self.word()
-        } else {
-            self.pick(edges)
-        }
-    }
-
-    /// A byte from 2 on: neither false nor true.
-    fn no_flag(&mut self) -> u8 {
-        let any = self.byte().max(2);
-        self.pick(&[2, 2, 3, 128, 254, 255, any])
-    }
-}
-
 /// The source of cases.
 pub struct Generator {
     random: Random,
@@ -133,7 +84,7 @@ pub struct Generator {
 
 impl Generator {
     pub fn new(seed: u64) -> Generator {
-        let mut random = Random(seed);
+        let mut random = Random::new(seed);
         let pool = (0..1 << 18).map(|_| random.byte()).collect();
         Generator { random, pool }
     }
@@ -164,7 +115,8 @@ impl Generator {
         (op, data)
     }
 
-    fn bytes(&mut self, length: usize) -> Vec<u8> {
+    /// Random bytes.
+    pub fn bytes(&mut self, length: usize) -> Vec<u8> {
         let start = self.random.below(self.pool.len() - length + 1);
         self.pool[start..start + length].to_vec()
     }
@@ -177,7 +129,7 @@ impl Generator {
     }
 
     /// An operation of this kind that breaks no rule.
-    fn sound_of(&mut self, code: u32) -> Operation {
+    pub fn sound_of(&mut self, code: u32) -> Operation {
         let random = &mut self.random;
         let mut flag = || random.byte() & 1;
         let (ide, flag_1, flag_2) = (flag(), flag(), flag());
@@ -294,11 +246,8 @@ impl Generator {
     // Buffers to read.
 
     /// An operation as bytes, sound or not, with data of its own length.
-    fn encoded(&mut self, op: &Operation) -> Vec<u8> {
-        let data = self.bytes(op.data_length());
-        let mut out = vec![0; op.header_length() + data.len()];
-        op.put(&data, &mut out);
-        out
+    pub fn encoded(&mut self, op: &Operation) -> Vec<u8> {
+        op.encode(&self.bytes(op.data_length()))
     }
 
     fn encoded_sound(&mut self) -> Vec<u8> {
@@ -306,12 +255,14 @@ impl Generator {
         self.encoded(&op)
     }
 
-    fn encoded_broken(&mut self) -> Vec<u8> {
+    /// An operation that breaks a content rule, as bytes.
+    pub fn encoded_broken(&mut self) -> Vec<u8> {
         let op = self.broken();
         self.encoded(&op)
     }
 
-    fn mangled(&mut self) -> Vec<u8> {
+    /// An operation as bytes, spoiled in one place.
+    pub fn mangled(&mut self) -> Vec<u8> {
         let broken = self.random.once_in(4);
         let mut buf = if broken { self.encoded_broken() } else { self.encoded_sound() };
         self.mangle(&mut buf);

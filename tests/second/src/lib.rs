@@ -12,4 +12,5 @@ pub mod comparison;
 pub mod generate;
 pub mod library;
 pub mod plants;
+pub mod random;
 pub mod tally;

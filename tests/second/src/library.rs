@@ -128,15 +128,9 @@ impl TryFrom<&KfOperation> for Operation {
             codec::FORMAT_ERROR => Operation::FormatError { length },
             codec::CAN_TRANSMIT => Operation::CanTransmit { id, ide: b0, rtr: b1, length },
             codec::FD_TRANSMIT => Operation::FdTransmit { id, ide: b0, brs: b1, esi: b2, length },
-            codec::XL_TRANSMIT => Operation::XlTransmit {
-                id,
-                ide: b0,
-                sec: b1,
-                sdt: b2,
-                vcid: b3,
-                af: word,
-                length,
-            },
+            codec::XL_TRANSMIT => {
+                Operation::XlTransmit { id, ide: b0, sec: b1, sdt: b2, vcid: b3, af: word, length }
+            }
             codec::CONFIRM => Operation::Confirm { id },
             codec::ARBITRATION_LOST => Operation::ArbitrationLost { id },
             codec::BUS_ERROR => {
