@@ -10,7 +10,7 @@
 /// Bytes of code and length, with which each operation starts.
 const START: usize = 8;
 const LARGEST_STANDARD_ID: u32 = 0x7FF;
-const LARGEST_ID: u32 = 0x1FFF_FFFF;
+pub const LARGEST_ID: u32 = 0x1FFF_FFFF;
 
 pub const FORMAT_ERROR: u32 = 0x01;
 pub const CAN_TRANSMIT: u32 = 0x10;

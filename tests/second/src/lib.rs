@@ -7,10 +7,14 @@
 //! - `cargo run --release --bin compare` compares the two on generated cases,
 //! - `cargo run --release --bin bench` measures them against each other.
 
+pub mod bus;
 pub mod codec;
 pub mod comparison;
 pub mod generate;
 pub mod library;
 pub mod plants;
 pub mod random;
+pub mod refusal;
+pub mod register;
+pub mod session;
 pub mod tally;
