@@ -37,7 +37,7 @@ pub enum Breach {
 }
 
 /// A bus, and a register for each of its nodes.
-#[derive(Clone, Debug)]
+#[derive(Clone, Debug, PartialEq, Eq)]
 pub struct Session {
     pub bus: Bus,
     pub registers: Vec<Register>,

@@ -1,10 +1,9 @@
-//! The count of cases by outcome. Every outcome has a row from the start, so
-//! that one that never came up is seen.
+//! The count of cases by outcome.
 
-use std::collections::BTreeMap;
 use std::fmt;
 
 use crate::codec::{self, Operation, Rule};
+use crate::counts::Counts;
 use crate::generate::{data_start, BREAKABLE, CODES};
 use crate::library::{KfOperation, KfPart, KfReading, KfWritten};
 
@@ -78,7 +77,7 @@ pub enum Outcome {
 
 /// Counts by outcome.
 pub struct Tally {
-    rows: BTreeMap<Outcome, u64>,
+    rows: Counts<Outcome>,
     reads: u64,
     writes: u64,
 }
@@ -91,8 +90,7 @@ impl Default for Tally {
 
 impl Tally {
     pub fn new() -> Tally {
-        let rows = outcomes().into_iter().map(|outcome| (outcome, 0)).collect();
-        Tally { rows, reads: 0, writes: 0 }
+        Tally { rows: Counts::of(outcomes()), reads: 0, writes: 0 }
     }
 
     /// Buffers read at a position, and operations written.
@@ -102,11 +100,11 @@ impl Tally {
 
     /// The outcomes that never came up.
     pub fn missing(&self) -> impl Iterator<Item = &Outcome> {
-        self.rows.iter().filter(|(_, &count)| count == 0).map(|(outcome, _)| outcome)
+        self.rows.missing()
     }
 
     fn count(&mut self, outcome: Outcome) {
-        *self.rows.get_mut(&outcome).expect("every outcome has a row") += 1;
+        self.rows.count(outcome);
     }
 
     pub fn reading(&mut self, buf: &[u8], at: usize, reading: &KfReading) {
@@ -367,10 +365,7 @@ impl fmt::Display for Outcome {
 
 impl fmt::Display for Tally {
     fn fmt(&self, f: &mut fmt::Formatter) -> fmt::Result {
-        for (outcome, count) in &self.rows {
-            writeln!(f, "{:<60}{count:>10}", outcome.to_string())?;
-        }
-        Ok(())
+        self.rows.fmt(f)
     }
 }
 

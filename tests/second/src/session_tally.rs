@@ -1,0 +1,303 @@
+//! The count of what sessions came to.
+
+use std::fmt;
+
+use crate::bus::{Bus, Injection, Node, Round};
+use crate::codec::{self, Operation};
+use crate::counts::Counts;
+use crate::generate::CODES;
+use crate::register::closed_id;
+use crate::session::{Answer, Call, Done};
+
+#[derive(Clone, Copy, Debug, PartialEq, Eq, PartialOrd, Ord)]
+pub enum CallKind {
+    Start,
+    Submit,
+    Round,
+    Collect,
+}
+
+/// What a step of an accepted buffer was.
+#[derive(Clone, Copy, Debug, PartialEq, Eq, PartialOrd, Ord)]
+pub enum Step {
+    Sound(u32),
+    AnsweredFault(u8),
+    /// A fault with the code of a Format Error.
+    SilentFault(u8),
+}
+
+/// Why a frame is pending no more.
+#[derive(Clone, Copy, Debug, PartialEq, Eq, PartialOrd, Ord)]
+pub enum Removal {
+    Delivered,
+    Errored,
+    Lost {
+        to_own_frame: bool,
+    },
+    /// Accepted by an earlier buffer.
+    BusOff,
+    /// Accepted earlier in the buffer.
+    BusOffWithin,
+}
+
+#[derive(Clone, Copy, Debug, PartialEq, Eq, PartialOrd, Ord)]
+pub enum Outcome {
+    Started {
+        nodes: usize,
+    },
+    Refused(CallKind, u8),
+    Step {
+        step: Step,
+        bus_off: bool,
+    },
+    Removed(Removal),
+    /// Closings in the queue of a node that went Bus-Off.
+    ClosingsDropped,
+    Idle {
+        largest_round_number: bool,
+    },
+    Aged,
+    /// Another node, or the sender, had the winner's ID pending too.
+    EqualIds {
+        same_node: bool,
+    },
+    /// A round without the Arbitration Losts would not have been refused.
+    FullByArbitrationLost,
+    LargestRoundNumberReached,
+    Queued(u32),
+    QueuedBusError {
+        detector: bool,
+        sender: bool,
+    },
+    QueueFilled,
+    CollectedNothing,
+    CollectedExactly,
+    /// A closing that a register read.
+    Closed(u32),
+}
+
+pub struct SessionTally {
+    rows: Counts<Outcome>,
+}
+
+impl Default for SessionTally {
+    fn default() -> SessionTally {
+        SessionTally::new()
+    }
+}
+
+impl SessionTally {
+    pub fn new() -> SessionTally {
+        SessionTally { rows: Counts::of(outcomes()) }
+    }
+
+    /// The outcomes that never came up.
+    pub fn missing(&self) -> impl Iterator<Item = &Outcome> {
+        self.rows.missing()
+    }
+
+    pub fn start(&mut self, nodes: usize, refusal: Option<u8>) {
+        self.rows.count(match refusal {
+            None => Outcome::Started { nodes },
+            Some(number) => Outcome::Refused(CallKind::Start, number),
+        });
+    }
+
+    /// A call that took the bus from `before` to `after`.
+    pub fn call(&mut self, before: &Bus, call: &Call, answer: &Answer, after: &Bus) {
+        match (call, answer) {
+            (call, &Err(number)) => self.refused(before, call, number),
+            (Call::Submit { node, buffer }, Ok(_)) => self.submitted(&before.nodes[*node], buffer),
+            (Call::Round { .. }, &Ok(Done::Round(round))) => self.round(before, round, after),
+            (Call::Collect { room, .. }, Ok(Done::Collected(bytes))) => {
+                self.collected(bytes, *room);
+            }
+            (call, answer) => unreachable!("{answer:?} to {call:?}"),
+        }
+        for (before, after) in before.nodes.iter().zip(&after.nodes) {
+            self.queued(before, after);
+        }
+    }
+
+    fn refused(&mut self, before: &Bus, call: &Call, number: u8) {
+        self.rows.count(Outcome::Refused(kind(call), number));
+        if let (&Call::Round { injection }, 9) = (call, number) {
+            if fits_without_losses(before, injection) {
+                self.rows.count(Outcome::FullByArbitrationLost);
+            }
+        }
+    }
+
+    fn submitted(&mut self, before: &Node, buffer: &[u8]) {
+        let mut bus_off = before.is_bus_off();
+        let (mut old, mut new) = (before.pending.len(), 0);
+        let mut closings = closings(&before.queue).count();
+        for (op, bytes) in codec::operations(buffer) {
+            self.rows.count(Outcome::Step { step: step(op, bytes), bus_off });
+            match op {
+                Ok(Operation::Status { status: codec::BUS_OFF }) => {
+                    self.went_bus_off(old, new, closings);
+                    (bus_off, old, new, closings) = (true, 0, 0, 0);
+                }
+                Ok(Operation::Status { .. }) => bus_off = false,
+                Ok(op) if op.transmit_id().is_some() && !bus_off => new += 1,
+                _ => {}
+            }
+        }
+    }
+
+    fn went_bus_off(&mut self, old: usize, new: usize, closings: usize) {
+        for _ in 0..old {
+            self.rows.count(Outcome::Removed(Removal::BusOff));
+        }
+        for _ in 0..new {
+            self.rows.count(Outcome::Removed(Removal::BusOffWithin));
+        }
+        for _ in 0..closings {
+            self.rows.count(Outcome::ClosingsDropped);
+        }
+    }
+
+    fn round(&mut self, before: &Bus, round: Round, after: &Bus) {
+        let Round::Carried { sender, id, errored, age } = round else {
+            let largest_round_number = before.round_number == u32::MAX;
+            return self.rows.count(Outcome::Idle { largest_round_number });
+        };
+        let removal = if errored { Removal::Errored } else { Removal::Delivered };
+        self.rows.count(Outcome::Removed(removal));
+        if age > 0 {
+            self.rows.count(Outcome::Aged);
+        }
+        if after.round_number == u32::MAX {
+            self.rows.count(Outcome::LargestRoundNumberReached);
+        }
+        for (number, (before, after)) in before.nodes.iter().zip(&after.nodes).enumerate() {
+            let same_node = number == sender;
+            let equal = before.pending.iter().filter(|frame| frame.id == id).count();
+            if equal > usize::from(same_node) {
+                self.rows.count(Outcome::EqualIds { same_node });
+            }
+            let removed = before.pending.len() - after.pending.len();
+            for _ in usize::from(same_node)..removed {
+                self.rows.count(Outcome::Removed(Removal::Lost { to_own_frame: same_node }));
+            }
+        }
+    }
+
+    fn collected(&mut self, bytes: &[u8], room: usize) {
+        if bytes.is_empty() {
+            self.rows.count(Outcome::CollectedNothing);
+        } else if bytes.len() == room {
+            self.rows.count(Outcome::CollectedExactly);
+        }
+        for closing in closings(bytes) {
+            self.rows.count(Outcome::Closed(closing.code()));
+        }
+    }
+
+    /// What a queue was given; where it was emptied first, what is in it.
+    fn queued(&mut self, before: &Node, after: &Node) {
+        let kept = if after.queue.starts_with(&before.queue) { before.queue.len() } else { 0 };
+        for (op, _) in codec::operations(&after.queue[kept..]) {
+            let op = op.expect("queues hold sound operations");
+            self.rows.count(Outcome::Queued(op.code()));
+            if let Operation::BusError { error_flag, is_sender, .. } = op {
+                let detector = error_flag == codec::PRIMARY_ERROR_FLAG;
+                self.rows.count(Outcome::QueuedBusError { detector, sender: is_sender == 1 });
+            }
+        }
+        if after.room() == 0 && before.room() != 0 {
+            self.rows.count(Outcome::QueueFilled);
+        }
+    }
+}
+
+impl fmt::Display for SessionTally {
+    fn fmt(&self, f: &mut fmt::Formatter) -> fmt::Result {
+        self.rows.fmt(f)
+    }
+}
+
+impl fmt::Display for Outcome {
+    fn fmt(&self, f: &mut fmt::Formatter) -> fmt::Result {
+        let name = |code| codec::name(code).unwrap_or("unknown");
+        match *self {
+            Outcome::Started { nodes } => write!(f, "started with {nodes} nodes"),
+            Outcome::Refused(call, number) => write!(f, "{call:?} refused with {number}"),
+            Outcome::Step { step, bus_off } => {
+                match step {
+                    Step::Sound(code) => write!(f, "submitted: {}", name(code)),
+                    Step::AnsweredFault(number) => write!(f, "submitted: fault {number}"),
+                    Step::SilentFault(number) => {
+                        write!(f, "submitted: fault {number}, code of Format Error")
+                    }
+                }?;
+                f.write_str(if bus_off { ", while Bus-Off" } else { "" })
+            }
+            Outcome::Queued(code) => write!(f, "queued: {}", name(code)),
+            Outcome::Closed(code) => write!(f, "closed in a register by {}", name(code)),
+            other => write!(f, "{other:?}"),
+        }
+    }
+}
+
+fn kind(call: &Call) -> CallKind {
+    match call {
+        Call::Submit { .. } => CallKind::Submit,
+        Call::Round { .. } => CallKind::Round,
+        Call::Collect { .. } => CallKind::Collect,
+    }
+}
+
+fn step(op: Result<Operation, u8>, bytes: &[u8]) -> Step {
+    match op {
+        Ok(op) => Step::Sound(op.code()),
+        Err(number) if bytes.starts_with(&[1, 0, 0, 0]) => Step::SilentFault(number),
+        Err(number) => Step::AnsweredFault(number),
+    }
+}
+
+fn closings(bytes: &[u8]) -> impl Iterator<Item = Operation> + '_ {
+    codec::operations(bytes).filter_map(|(op, _)| op.ok()).filter(|op| closed_id(op).is_some())
+}
+
+fn fits_without_losses(bus: &Bus, injection: Option<Injection>) -> bool {
+    let mut buffering = bus.clone();
+    for node in &mut buffering.nodes {
+        node.behaviour = codec::BUFFER_AND_RETRANSMIT;
+    }
+    buffering.round(injection) != Err(9)
+}
+
+/// Every outcome there is.
+fn outcomes() -> Vec<Outcome> {
+    use Outcome::*;
+    let mut all = vec![ClosingsDropped, Aged, FullByArbitrationLost, LargestRoundNumberReached];
+    all.extend([QueueFilled, CollectedNothing, CollectedExactly]);
+    all.extend((2..=8).map(|nodes| Started { nodes }));
+    all.push(Refused(CallKind::Start, 2));
+    all.extend([4, 5, 8, 9].map(|number| Refused(CallKind::Submit, number)));
+    all.extend([6, 9, 10].map(|number| Refused(CallKind::Round, number)));
+    all.extend([4, 11].map(|number| Refused(CallKind::Collect, number)));
+    all.extend([Removal::Delivered, Removal::Errored].map(Removed));
+    all.extend([Removal::BusOff, Removal::BusOffWithin].map(Removed));
+    for yes in [false, true] {
+        all.extend(steps().map(|step| Step { step, bus_off: yes }));
+        all.push(Removed(Removal::Lost { to_own_frame: yes }));
+        all.push(Idle { largest_round_number: yes });
+        all.push(EqualIds { same_node: yes });
+        all.extend([false, true].map(|sender| QueuedBusError { detector: yes, sender }));
+    }
+    // Configuration and Status are for the bus alone.
+    let queued = CODES.iter().filter(|code| ![codec::CONFIGURATION, codec::STATUS].contains(code));
+    all.extend(queued.map(|&code| Queued(code)));
+    all.extend([codec::CONFIRM, codec::ARBITRATION_LOST, codec::BUS_ERROR].map(Closed));
+    all
+}
+
+fn steps() -> impl Iterator<Item = Step> {
+    let sound = CODES.into_iter().map(Step::Sound);
+    // A Format Error has no content rules, and its code is known.
+    let silent = [1, 2, 4].map(Step::SilentFault);
+    sound.chain((1..=5).map(Step::AnsweredFault)).chain(silent)
+}
