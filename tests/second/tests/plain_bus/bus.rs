@@ -334,7 +334,7 @@ fn wakeup_into_a_full_queue_is_9() {
 
 #[test]
 fn order_is_by_id_then_node_then_acceptance() {
-    let second = [can_with(7, 0, &[1]), can(9)].concat();
+    let second = [can(9), can_with(7, 0, &[1])].concat();
     let third = [can_with(7, 0, &[2]), can_with(7, 0, &[3]), can(3)].concat();
     let mut bus = bus_with(&[can(8), second, third]);
     let order = [(2, 3), (1, 7), (2, 7), (2, 7), (0, 8), (1, 9)];
