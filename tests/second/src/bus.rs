@@ -18,6 +18,7 @@ pub const LONGEST_BUFFER: usize = 4_086;
 /// A Transmit that waits for a round.
 #[derive(Clone, Debug, PartialEq, Eq)]
 pub struct Frame {
+    /// For orders that ask for more than the ID.
     pub op: Operation,
     /// The complete operation as it was submitted.
     pub bytes: Vec<u8>,
@@ -205,9 +206,10 @@ impl Bus {
     fn report_error(&mut self, sender: usize, id: u32, injection: Injection) -> Result<(), u8> {
         let Injection { error_code, detector } = injection;
         self.listening().try_for_each(|(number, node)| {
-            let error_flag = match number == detector {
-                true => codec::PRIMARY_ERROR_FLAG,
-                false => codec::SECONDARY_ERROR_FLAG,
+            let error_flag = if number == detector {
+                codec::PRIMARY_ERROR_FLAG
+            } else {
+                codec::SECONDARY_ERROR_FLAG
             };
             let is_sender = u8::from(number == sender);
             let error = Operation::BusError { id, error_code, error_flag, is_sender };

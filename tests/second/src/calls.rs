@@ -176,10 +176,8 @@ impl Calls {
 
     /// Bus-Off now and then, and mostly back again.
     fn status(&mut self, node: &Node) -> Vec<u8> {
-        let status = match node.is_bus_off() {
-            true => self.random.pick(&[1, 1, 2, 2, 3]),
-            false => self.random.pick(&[1, 2, 3]),
-        };
+        let statuses: &[u8] = if node.is_bus_off() { &[1, 1, 2, 2, 3] } else { &[1, 2, 3] };
+        let status = self.random.pick(statuses);
         Operation::Status { status }.encode(&[])
     }
 
