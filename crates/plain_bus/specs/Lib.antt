@@ -1,0 +1,11 @@
+pub mod Kinds
+pub mod Held
+pub mod Refusal
+pub mod Submit
+pub mod Order
+pub mod Round
+pub mod Calls
+pub mod Valid
+pub mod Register
+pub mod Session
+pub mod Examples

@@ -1,0 +1,20 @@
+-- The refusals of the bus and of the register, and their numbers (01, "Numbers that calls answer with").
+-- Number 0 is no refusal; 1 is about lent memory and 7 about writing, which are not at this level.
+-- Assumes nothing.
+use Prim.Native.Nat.{ℕ}
+
+pub data Refusal : Type 0 where
+  badNodeCount invalid notAttached bufferTooLong badInjection fourPending queueFull roundsUsedUp roomTooSmall registerFull registerDiffers : Refusal
+
+abbrev pub numberOf : Refusal → ℕ
+numberOf badNodeCount = 2
+numberOf invalid = 3
+numberOf notAttached = 4
+numberOf bufferTooLong = 5
+numberOf badInjection = 6
+numberOf fourPending = 8
+numberOf queueFull = 9
+numberOf roundsUsedUp = 10
+numberOf roomTooSmall = 11
+numberOf registerFull = 12
+numberOf registerDiffers = 13
