@@ -1,0 +1,58 @@
+-- What the laws of the bus need of reading and writing.
+-- Assumes nothing.
+use mathlib.Core.Path.{_≡_, refl, sym, ap, _∙_, subst}
+use Prim.Native.Nat.{ℕ, zero, suc, _+_, _-_, _≤_, _<_}
+use native.Mathlib.Omega.{arith}
+use mathlib.Core.List.{List, [], _∷_, _++_}
+use mathlib.Core.Bool.{Bool, true, false, cond}
+use lib.ListN.{length, take, drop}
+use Rattle.operation.specs.Format.{encode, lengthOf}
+use Rattle.operation.specs.Rules.{maxExtendedId, oneOf, errorCodes, errorFlags, isBit, legal}
+use Rattle.operation.specs.declared.Operation.{Operation}
+use Rattle.operation.specs.declared.Operation.the-variants.{FormatError, Confirm, ArbitrationLost, BusError, Wakeup}
+use Rattle.decoder.specs.Front.{front}
+use Rattle.decoder.specs.Stream.{Item, operation, fault, itemsOf, itemsUpTo, joined}
+use Rattle.decoder.specs.declared.Front.{Front}
+use Rattle.decoder.specs.declared.Front.the-variants.{End, Fault, Found}
+use Rattle.plain_bus.specs.Valid.{ReadsAs}
+
+-- ---- reading goes forward
+
+pub at-end : (s : List ℕ) → front s ≡ End → s ≡ []
+at-end s e = ?
+
+pub fault-moves : {number n : ℕ} (s : List ℕ) → front s ≡ Fault number n → 1 ≤ n
+fault-moves s e = ?
+
+pub found : {op : Operation} {n : ℕ} (s : List ℕ) → front s ≡ Found op n → (8 ≤ n) × (n ≤ length s) × (n ≡ lengthOf op) × (legal op ≡ true)
+found s e = ?
+
+pub front-prefix : {op : Operation} {n : ℕ} (s : List ℕ) → front s ≡ Found op n → (rest : List ℕ) → front (take n s ++ rest) ≡ Found op n
+front-prefix s e rest = ?
+
+pub items-nil : itemsOf [] ≡ []
+items-nil = ?h
+
+pub items-found : {op : Operation} {n : ℕ} (s : List ℕ) → front s ≡ Found op n → itemsOf s ≡ operation op (take n s) ∷ itemsOf (drop n s)
+items-found s e = ?
+
+pub items-fault : {number n : ℕ} (s : List ℕ) → front s ≡ Fault number n → itemsOf s ≡ fault number (take n s) ∷ itemsOf (drop n s)
+items-fault s e = ?
+
+-- ---- what the bus itself writes
+
+pub reads-confirm : (id : ℕ) → id ≤ maxExtendedId → ReadsAs (Confirm id) (encode (Confirm id) [])
+reads-confirm id h = ?
+
+pub reads-lost : (id : ℕ) → id ≤ maxExtendedId → ReadsAs (ArbitrationLost id) (encode (ArbitrationLost id) [])
+reads-lost id h = ?
+
+pub reads-bus-error : (id code flag sender : ℕ) → legal (BusError id code flag sender) ≡ true
+    → ReadsAs (BusError id code flag sender) (encode (BusError id code flag sender) [])
+reads-bus-error id code flag sender h = ?
+
+pub reads-format-error : (bytes : List ℕ) → length bytes < 65_536 → ReadsAs (FormatError (length bytes)) (encode (FormatError (length bytes)) bytes)
+reads-format-error bytes h = ?
+
+pub reads-wakeup : ReadsAs Wakeup (encode Wakeup [])
+reads-wakeup = ?h
