@@ -14,30 +14,21 @@ use Rattle.decoder.specs.Front.{front}
 use Rattle.decoder.specs.Stream.{Item, operation, fault, itemsOf, itemsUpTo, joined}
 use Rattle.decoder.specs.declared.Front.{Front}
 use Rattle.decoder.specs.declared.Front.the-variants.{End, Fault, Found}
+use Rattle.decoder.proofs.Forward.{forward}
+use Rattle.decoder.proofs.Streams.{front-nil}
 use Rattle.plain_bus.specs.Valid.{ReadsAs}
 
 -- ---- reading goes forward
 
-pub at-end : (s : List ℕ) → front s ≡ End → s ≡ []
-at-end s e = ?
-
 pub fault-moves : {number n : ℕ} (s : List ℕ) → front s ≡ Fault number n → 1 ≤ n
-fault-moves s e = ?
+fault-moves [] e = let z : _≡_ {A = ℕ} 0 1 = cc front-nil in absurd (omega arith)
+fault-moves (b ∷ s) e = rw e at (forward (b ∷ s) (omega arith)) .0
 
 pub found : {op : Operation} {n : ℕ} (s : List ℕ) → front s ≡ Found op n → (8 ≤ n) × (n ≤ length s) × (n ≡ lengthOf op) × (legal op ≡ true)
 found s e = ?
 
 pub front-prefix : {op : Operation} {n : ℕ} (s : List ℕ) → front s ≡ Found op n → (rest : List ℕ) → front (take n s ++ rest) ≡ Found op n
 front-prefix s e rest = ?
-
-pub items-nil : itemsOf [] ≡ []
-items-nil = ?h
-
-pub items-found : {op : Operation} {n : ℕ} (s : List ℕ) → front s ≡ Found op n → itemsOf s ≡ operation op (take n s) ∷ itemsOf (drop n s)
-items-found s e = ?
-
-pub items-fault : {number n : ℕ} (s : List ℕ) → front s ≡ Fault number n → itemsOf s ≡ fault number (take n s) ∷ itemsOf (drop n s)
-items-fault s e = ?
 
 -- ---- what the bus itself writes
 

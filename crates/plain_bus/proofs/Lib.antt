@@ -1,3 +1,8 @@
 pub mod Codec
-pub mod Streams
+pub mod Whole
 pub mod Counts
+pub mod Nodes
+pub mod Ordering
+pub mod Winner
+pub mod Changes
+pub mod Validity

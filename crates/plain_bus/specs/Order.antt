@@ -1,12 +1,14 @@
 -- The order among pending frames, and the first one by it (01, "One round").
 -- Assumes nothing.
-use Prim.Native.Nat.{ℕ, suc}
+use Prim.Native.Nat.{ℕ, suc, _<_}
+use mathlib.Core.Path.{_≡_}
 use mathlib.Core.List.{List, [], _∷_, _++_}
 use mathlib.Core.Bool.{Bool, cond, _&&_, _||_}
 use lib.Dec.{ltb, eqb}
+use lib.ListN.{length, getD}
 use Rattle.operation.specs.declared.Operation.{Operation}
 use Rattle.plain_bus.specs.Kinds.{idOf}
-use Rattle.plain_bus.specs.Held.{Frame, Node, Bus}
+use Rattle.plain_bus.specs.Held.{Frame, Node, Bus, nodeAt}
 
 -- a pending frame with its node's number and its position among that node's pending frames, oldest first
 pub record Entry : Type 0 where
@@ -29,6 +31,12 @@ lowerOr a c t = ltb a c || eqb a c && t
 unfoldable pub goesBefore : Entry → Entry → Bool
 goesBefore x y =
     lowerOr (rankOf x) (rankOf y) (lowerOr (x .owner) (y .owner) (ltb (x .position) (y .position)))
+
+-- x is one of the pending frames of the bus: at its position among those of its node
+pub record Stands (b : Bus) (x : Entry) : Type 0 where
+  pub attached : x .owner < length (b .nodes)
+  pub placed : x .position < length (nodeAt b (x .owner) .pending)
+  pub held : getD (nodeAt b (x .owner) .pending) (x .position) (x .frame) ≡ x .frame
 
 -- ---- all pending frames, and the first of them
 

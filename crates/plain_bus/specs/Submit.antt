@@ -33,9 +33,11 @@ unfoldable pub configure : Node → ℕ → ℕ → Node
 configure d kind value = cond (eqb kind 4) (withBehaviour d value) (withRates d (set (d .rates) (kind - 1) value))
 
 -- a Status sets the status; Bus-Off removes all the node's pending frames and empties its queue
+abbrev pub cleared : Node → Node
+cleared d = withQueue (withPending d []) []
+
 unfoldable pub setStatus : Node → ℕ → Node
-setStatus d status =
-    cond (eqb status busOff) (withQueue (withPending (withStatus d status) []) []) (withStatus d status)
+setStatus d status = withStatus (cond (eqb status busOff) (cleared d) d) status
 
 -- what a Wakeup of node k adds at node j: nothing at k itself and at a Bus-Off node
 abbrev pub wakeupFor : ℕ → ℕ → Node → List ℕ

@@ -22,7 +22,8 @@ use Rattle.decoder.specs.declared.Front.the-variants.{End, Fault, Found}
 use Rattle.plain_bus.specs.Kinds.{idOf, closes}
 use Rattle.plain_bus.specs.Valid.{ReadsAs, noFault, Whole}
 use Rattle.plain_bus.specs.Session.{count, closingIds}
-use Rattle.plain_bus.proofs.Codec.{at-end, fault-moves, found, front-prefix, items-nil, items-found, items-fault}
+use Rattle.decoder.proofs.Streams.{front-nil, end-empty, unroll}
+use Rattle.plain_bus.proofs.Codec.{fault-moves, found, front-prefix}
 
 -- ---- induction along the reading
 
@@ -35,7 +36,7 @@ module _ (P : List ℕ → Type 0) (none : P [])
   up-to (suc k) s h = go (front s) refl (λ n m. up-to k (drop n s) (simp length-drop (omega arith)))
     where
       go : (f : Front) → front s ≡ f → ((n : ℕ) → 1 ≤ n → P (drop n s)) → P s
-      go End e r = subst P (sym (at-end s e)) none
+      go End e r = subst P (sym (end-empty s e)) none
       go (Fault number n) e r = faulty number n s e (r n (fault-moves s e))
       go (Found op n) e r = sound op n s e (r n (omega (arith, found s e)))
 
@@ -43,6 +44,9 @@ module _ (P : List ℕ → Type 0) (none : P [])
   along s = up-to (length s) s (le-refl (length s))
 
 -- ---- putting together
+
+items-nil : itemsOf [] ≡ []
+items-nil = unroll [] front-nil
 
 -- an operation at the front stands there whatever follows
 front-append : {op : Operation} {n : ℕ} (s t : List ℕ) → front s ≡ Found op n
@@ -56,13 +60,13 @@ front-append {op} {n} s t e =
 no-fault-cut : {P : Type 0} {number n : ℕ} (s : List ℕ) → front s ≡ Fault number n → Whole s → P
 unfolding noFault
 no-fault-cut {P} {number} {n} s e w =
-    let f : false ≡ true = sym (ap noFault (items-fault s e)) ∙ w in
+    let f : false ≡ true = sym (ap noFault (unroll s e)) ∙ w in
     let z : _≡_ {A = ℕ} 0 1 = cc in
     absurd (omega arith)
 
 whole-rest : {op : Operation} {n : ℕ} (s : List ℕ) → front s ≡ Found op n → Whole s → Whole (drop n s)
 unfolding noFault
-whole-rest s e w = sym (ap noFault (items-found s e)) ∙ w
+whole-rest s e w = sym (ap noFault (unroll s e)) ∙ w
 
 pub items-append : (s t : List ℕ) → Whole s → itemsOf (s ++ t) ≡ itemsOf s ++ itemsOf t
 items-append s t = along (λ s. Whole s → itemsOf (s ++ t) ≡ itemsOf s ++ itemsOf t) none faulty sound s
@@ -76,7 +80,7 @@ items-append s t = along (λ s. Whole s → itemsOf (s ++ t) ≡ itemsOf s ++ it
       → Whole s → itemsOf (s ++ t) ≡ itemsOf s ++ itemsOf t
     sound op n s e r w =
         let f = front-append s t e in
-        items-found (s ++ t) (f .0) ∙ rw (f .1, f .2, r (whole-rest s e w), items-found s e)
+        unroll (s ++ t) (f .0) ∙ rw (f .1, f .2, r (whole-rest s e w), unroll s e)
 
 no-fault-append : (is js : List Item) → noFault is ≡ true → noFault js ≡ true → noFault (is ++ js) ≡ true
 unfolding noFault
@@ -93,7 +97,7 @@ whole-nil = ap noFault items-nil
 
 -- the bytes of one operation
 pub items-one : {op : Operation} (bytes : List ℕ) → ReadsAs op bytes → itemsOf bytes ≡ operation op bytes ∷ []
-items-one bytes e = items-found bytes e ∙ rw (take-length, drop-length, items-nil)
+items-one bytes e = unroll bytes e ∙ rw (take-length, drop-length, items-nil)
 
 pub whole-one : {op : Operation} (bytes : List ℕ) → ReadsAs op bytes → Whole bytes
 unfolding noFault
@@ -112,8 +116,8 @@ ValidItems (i ∷ is) = ValidItem i × ValidItems is
 -- each operation of a buffer is what its own bytes read as
 pub items-valid : (s : List ℕ) → ValidItems (itemsOf s)
 items-valid s = along (λ s. ValidItems (itemsOf s)) (rw items-nil tt)
-    (λ number n s e r. rw (items-fault s e) (tt, r))
-    (λ op n s e r. rw (items-found s e) (one s e, r)) s
+    (λ number n s e r. rw (unroll s e) (tt, r))
+    (λ op n s e r. rw (unroll s e) (one s e, r)) s
   where
     one : {op : Operation} {n : ℕ} (s : List ℕ) → front s ≡ Found op n → front (take n s) ≡ Found op (length (take n s))
     one {op} {n} s e =
@@ -148,8 +152,8 @@ closing-long Wakeup e = let z : _≡_ {A = ℕ} 0 1 = cc in absurd (omega arith)
 pub closings-short : (s : List ℕ) → 12 * length (closingIds (itemsOf s)) ≤ length s
 unfolding closingIds
 closings-short s = along (λ s. 12 * length (closingIds (itemsOf s)) ≤ length s) (rw items-nil (omega arith))
-    (λ number n s e r. rw (items-fault s e) (omega (arith, length-drop n s, r)))
-    (λ op n s e r. rw (items-found s e) (go op n s e (closes op) refl r)) s
+    (λ number n s e r. rw (unroll s e) (omega (arith, length-drop n s, r)))
+    (λ op n s e r. rw (unroll s e) (go op n s e (closes op) refl r)) s
   where
     go : (op : Operation) (n : ℕ) (s : List ℕ) → front s ≡ Found op n → (t : Bool) → closes op ≡ t → 12 * length (closingIds (itemsOf (drop n s))) ≤ length (drop n s)
       → 12 * length (cond t (idOf op ∷ closingIds (itemsOf (drop n s))) (closingIds (itemsOf (drop n s)))) ≤ length s

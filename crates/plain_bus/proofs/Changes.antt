@@ -1,0 +1,46 @@
+-- What one step of a call does to one node, with what it does to the register of that node.
+-- Every law about all calls goes by these eight cases.
+-- Assumes nothing.
+use mathlib.Core.Path.{_≡_}
+use Prim.Native.Nat.{ℕ, _+_, _≤_, _<_}
+use mathlib.Core.Bool.{Bool, true, false}
+use mathlib.Core.List.{List, []}
+use lib.Dec.{eqb}
+use lib.ListN.{length, getD}
+use Rattle.operation.specs.Rules.{oneOf, errorCodes, legal}
+use Rattle.operation.specs.declared.Operation.{Operation}
+use Rattle.operation.specs.declared.Operation.the-variants.{Configuration, Status}
+use Rattle.plain_bus.specs.Kinds.{idOf, closes}
+use Rattle.plain_bus.specs.Held.{Frame, Node, maxPending, queueCapacity, isOff, withQueue, enqueue}
+use Rattle.plain_bus.specs.Submit.{accept, configure, setStatus}
+use Rattle.plain_bus.specs.Order.{Entry}
+use Rattle.plain_bus.specs.Round.{Injection, noError, injected, owed, settle}
+use Rattle.plain_bus.specs.Valid.{ReadsAs, ValidFrame}
+use Rattle.plain_bus.specs.Register.{Register, Update, updated, openId, noteStatus, read}
+
+-- an injection whose code is in the table
+abbrev pub LegalInjection : Injection → Type 0
+LegalInjection noError = Unit {0}
+LegalInjection (injected code detector) = oneOf code errorCodes ≡ true
+
+-- the winner stands among the pending frames of its own node d
+pub record Own (w : Entry) (d : Node) : Type 0 where
+  pub placed : w .position < length (d .pending)
+  pub held : getD (d .pending) (w .position) (w .frame) ≡ w .frame
+
+-- the round number before and after, what the register's call does, and the node before and after
+pub data Change : ℕ → ℕ → (Register → Update) → Node → Node → Type 0 where
+  still : {now : ℕ} {d : Node} → Change now now updated d d
+  ignored : {now : ℕ} {d : Node} (id : ℕ) → isOff d ≡ true → Change now now (λ x. openId x id) d d
+  joined : {now : ℕ} {d : Node} (f : Frame) → isOff d ≡ false → length (d .pending) < maxPending → ValidFrame f → f .accepted ≡ now
+    → Change now now (λ x. openId x (idOf (f .op))) d (accept d f)
+  configured : {now : ℕ} {d : Node} (kind value : ℕ) → legal (Configuration kind value) ≡ true
+    → Change now now updated d (configure d kind value)
+  statusSet : {now : ℕ} {d : Node} (status : ℕ) → legal (Status status) ≡ true
+    → Change now now (λ x. updated (noteStatus x status)) d (setStatus d status)
+  answered : {now : ℕ} {d : Node} (op : Operation) (bytes : List ℕ) → ReadsAs op bytes → closes op ≡ false
+    → length (d .queue) + length bytes ≤ queueCapacity → Change now now updated d (enqueue d bytes)
+  settled : {now : ℕ} {d : Node} (e : Injection) (w : Entry) (j : ℕ) → LegalInjection e → ValidFrame (w .frame)
+    → (eqb j (w .owner) ≡ true → Own w d) → length (d .queue) + length (owed e w j d) ≤ queueCapacity
+    → Change now (now + 1) updated d (settle e w j d)
+  collected : {now : ℕ} {d : Node} → Change now now (λ x. read x (d .queue)) d (withQueue d [])
