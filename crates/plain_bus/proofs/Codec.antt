@@ -5,9 +5,9 @@ use Prim.Native.Nat.{ℕ, zero, suc, _+_, _-_, _≤_, _<_}
 use native.Mathlib.Omega.{arith}
 use mathlib.Core.List.{List, [], _∷_, _++_}
 use mathlib.Core.Bool.{Bool, true, false, cond}
-use lib.ListN.{length, take, drop}
+use lib.ListN.{length, take, drop, getD}
 use Rattle.operation.specs.Format.{encode, lengthOf}
-use Rattle.operation.specs.Rules.{maxExtendedId, oneOf, errorCodes, errorFlags, isBit, legal}
+use Rattle.operation.specs.Rules.{allAfter, all, maxExtendedId, oneOf, errorCodes, errorFlags, isBit, legal}
 use Rattle.operation.specs.declared.Operation.{Operation}
 use Rattle.operation.specs.declared.Operation.the-variants.{FormatError, Confirm, ArbitrationLost, BusError, Wakeup}
 use Rattle.decoder.specs.Front.{front}
@@ -29,6 +29,21 @@ found s e = ?
 
 pub front-prefix : {op : Operation} {n : ℕ} (s : List ℕ) → front s ≡ Found op n → (rest : List ℕ) → front (take n s ++ rest) ≡ Found op n
 front-prefix s e rest = ?
+
+-- ---- a content rule of a list that was passed
+
+after-true : (t : Bool) (ts : List Bool) → allAfter t ts ≡ true → (t ≡ true) × ((i : ℕ) → getD ts i true ≡ true)
+unfolding allAfter
+after-true t [] e = (e, λ i. refl)
+after-true true (u ∷ us) e = let r = after-true u us e in (refl, at (r .0) (r .1))
+  where
+    at : u ≡ true → ((i : ℕ) → getD us i true ≡ true) → (i : ℕ) → getD (u ∷ us) i true ≡ true
+    at p q zero = p
+    at p q (suc i) = q i
+after-true false (u ∷ us) e = let z : _≡_ {A = ℕ} 0 1 = cc (after-true false us e .0) in absurd (omega arith)
+
+pub rule : (ts : List Bool) → all ts ≡ true → (i : ℕ) → getD ts i true ≡ true
+rule ts e = after-true true ts e .1
 
 -- ---- what the bus itself writes
 

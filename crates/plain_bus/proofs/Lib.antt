@@ -6,3 +6,5 @@ pub mod Ordering
 pub mod Winner
 pub mod Changes
 pub mod Validity
+pub mod Owed
+pub mod Tally

@@ -8,15 +8,16 @@ use mathlib.Core.List.{List, [], _∷_, _++_}
 use lib.Dec.{leb, eqb}
 use lib.ListN.{length, getD, set, length-append, length-set}
 use borrow.Author.Tests.{leb-true}
-use Rattle.operation.specs.Rules.{allAfter, oneOf, settingRule, rules, legal, statuses, behaviours}
+use Rattle.operation.specs.Rules.{oneOf, settingRule, rules, legal, statuses, behaviours}
 use Rattle.operation.specs.declared.Operation.{Operation}
 use Rattle.operation.specs.declared.Operation.the-variants.{Configuration, Status}
 use Rattle.plain_bus.specs.Held.{Frame, Node, maxPending, queueCapacity, busOff, isOff, discards, withStatus, withBehaviour, withRates, withPending, withQueue, enqueue}
 use Rattle.plain_bus.specs.Submit.{cleared, configure, setStatus}
 use Rattle.plain_bus.specs.Order.{Entry}
-use Rattle.plain_bus.specs.Round.{Injection, without, losers, stay, owed, settle}
+use Rattle.plain_bus.specs.Round.{Injection, without, losers, told, stay, owed, settle}
 use Rattle.plain_bus.specs.Register.{Register, Update}
 use Rattle.plain_bus.specs.Valid.{ValidFrame, ValidFrames, NonZero, ValidNode}
+use Rattle.plain_bus.proofs.Codec.{rule}
 use Rattle.plain_bus.proofs.Changes.{Change, still, ignored, joined, configured, statusSet, answered, settled, collected}
 
 -- ---- pending frames
@@ -53,16 +54,12 @@ non-zero-set (y ∷ l) zero x h a = (h, a .1)
 non-zero-set (y ∷ l) (suc i) x h a = (a .0, non-zero-set l i x h (a .1))
 
 setting-legal : (kind value : ℕ) → legal (Configuration kind value) ≡ true → settingRule kind value ≡ true
-unfolding legal rules allAfter
-setting-legal kind value e = go (leb 1 kind && leb kind 4) (settingRule kind value) e
-  where
-    go : (t u : Bool) → (t && u) ≡ true → u ≡ true
-    go true u e = e
-    go false u e = let z : _≡_ {A = ℕ} 0 1 = cc in absurd (omega arith)
+unfolding legal rules
+setting-legal kind value e = rule _ e 2
 
 status-legal : (status : ℕ) → legal (Status status) ≡ true → oneOf status statuses ≡ true
-unfolding legal rules allAfter
-status-legal status e = e
+unfolding legal rules
+status-legal status e = rule _ e 0
 
 -- ---- each setter
 
@@ -126,6 +123,16 @@ stay-valid now d w j v = go (discards d) (eqb j (w .owner))
         silent = λ q. rw (v .silent q);
         frames = frames-later 0 now (now + 1) (without (w .position) (d .pending)) (omega arith) (frames-without 0 now (w .position) (d .pending) (v .frames)) }
     go false false = record { few = v .few; silent = v .silent; frames = frames-later 0 now (now + 1) (d .pending) (omega arith) (v .frames) }
+
+-- the frames that are told
+pub told-valid : (now : ℕ) (d : Node) (w : Entry) (j : ℕ) → ValidNode now d → ValidFrames 0 now (told w j d)
+unfolding told losers
+told-valid now d w j v = go (discards d) (eqb j (w .owner))
+  where
+    go : (t u : Bool) → ValidFrames 0 now (cond t (cond u (without (w .position) (d .pending)) (d .pending)) [])
+    go false u = tt
+    go true true = frames-without 0 now (w .position) (d .pending) (v .frames)
+    go true false = v .frames
 
 -- every change keeps a node valid
 pub change-valid : {now later : ℕ} {call : Register → Update} {d d′ : Node} → Change now later call d d′ → ValidNode now d → ValidNode later d′

@@ -45,7 +45,7 @@ module _ (P : List ℕ → Type 0) (none : P [])
 
 -- ---- putting together
 
-items-nil : itemsOf [] ≡ []
+pub items-nil : itemsOf [] ≡ []
 items-nil = unroll [] front-nil
 
 -- an operation at the front stands there whatever follows
