@@ -24,12 +24,6 @@ pub fault-moves : {number n : ℕ} (s : List ℕ) → front s ≡ Fault number n
 fault-moves [] e = let z : _≡_ {A = ℕ} 0 1 = cc front-nil in absurd (omega arith)
 fault-moves (b ∷ s) e = rw e at (forward (b ∷ s) (omega arith)) .0
 
-pub found : {op : Operation} {n : ℕ} (s : List ℕ) → front s ≡ Found op n → (8 ≤ n) × (n ≤ length s) × (n ≡ lengthOf op) × (legal op ≡ true)
-found s e = ?
-
-pub front-prefix : {op : Operation} {n : ℕ} (s : List ℕ) → front s ≡ Found op n → (rest : List ℕ) → front (take n s ++ rest) ≡ Found op n
-front-prefix s e rest = ?
-
 -- ---- a content rule of a list that was passed
 
 after-true : (t : Bool) (ts : List Bool) → allAfter t ts ≡ true → (t ≡ true) × ((i : ℕ) → getD ts i true ≡ true)

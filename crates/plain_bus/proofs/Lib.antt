@@ -8,3 +8,6 @@ pub mod Changes
 pub mod Validity
 pub mod Owed
 pub mod Tally
+pub mod Steps
+pub mod Kept
+pub mod Demand3

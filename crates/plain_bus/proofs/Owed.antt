@@ -12,13 +12,14 @@ use Rattle.operation.specs.Rules.{allAfter, oneOf, isBit, maxId, maxStandardId,
 use Rattle.operation.specs.declared.Operation.{Operation}
 use Rattle.operation.specs.declared.Operation.the-variants.{FormatError, CanTransmit, FdTransmit, XlTransmit, Confirm, ArbitrationLost, BusError, Configuration, Status, Wakeup}
 use Rattle.decoder.specs.Stream.{itemsOf}
+use Rattle.decoder.proofs.Found.{found}
 use Rattle.plain_bus.specs.Kinds.{isTransmit, idOf, closes}
 use Rattle.plain_bus.specs.Held.{Frame, Node, isOff, discards}
 use Rattle.plain_bus.specs.Order.{Entry}
 use Rattle.plain_bus.specs.Round.{Injection, noError, injected, primaryErrorFlag, secondaryErrorFlag, winnerId, newsFor, losers, lostNotices, told, owed}
 use Rattle.plain_bus.specs.Valid.{ReadsAs, ValidFrame, ValidFrames, Whole}
 use Rattle.plain_bus.specs.Session.{closingIds, pendingIds}
-use Rattle.plain_bus.proofs.Codec.{found, rule, reads-confirm, reads-lost, reads-bus-error}
+use Rattle.plain_bus.proofs.Codec.{rule, reads-confirm, reads-lost, reads-bus-error}
 use Rattle.plain_bus.proofs.Whole.{items-append, whole-append, whole-nil, items-nil, items-one, whole-one, closing-append}
 use Rattle.plain_bus.proofs.Changes.{LegalInjection}
 
@@ -45,7 +46,7 @@ legal-id (Status status) e = omega arith
 legal-id Wakeup e = omega arith
 
 pub read-id : {op : Operation} (bytes : List ℕ) → ReadsAs op bytes → idOf op ≤ maxExtendedId
-read-id {op} bytes r = legal-id op (found bytes r .3)
+read-id {op} bytes r = legal-id op (found r .lawful)
 
 -- ---- bytes that are whole operations, and the IDs that these close
 

@@ -22,8 +22,9 @@ use Rattle.decoder.specs.declared.Front.the-variants.{End, Fault, Found}
 use Rattle.plain_bus.specs.Kinds.{idOf, closes}
 use Rattle.plain_bus.specs.Valid.{ReadsAs, noFault, Whole}
 use Rattle.plain_bus.specs.Session.{count, closingIds}
+use Rattle.decoder.proofs.Found.{found, found-prefix}
 use Rattle.decoder.proofs.Streams.{front-nil, end-empty, unroll}
-use Rattle.plain_bus.proofs.Codec.{fault-moves, found, front-prefix}
+use Rattle.plain_bus.proofs.Codec.{fault-moves}
 
 -- ---- induction along the reading
 
@@ -38,7 +39,7 @@ module _ (P : List ℕ → Type 0) (none : P [])
       go : (f : Front) → front s ≡ f → ((n : ℕ) → 1 ≤ n → P (drop n s)) → P s
       go End e r = subst P (sym (end-empty s e)) none
       go (Fault number n) e r = faulty number n s e (r n (fault-moves s e))
-      go (Found op n) e r = sound op n s e (r n (omega (arith, found s e)))
+      go (Found op n) e r = sound op n s e (r n (omega (arith, found e .least)))
 
   pub along : (s : List ℕ) → P s
   along s = up-to (length s) s (le-refl (length s))
@@ -52,8 +53,8 @@ items-nil = unroll [] front-nil
 front-append : {op : Operation} {n : ℕ} (s t : List ℕ) → front s ≡ Found op n
     → (front (s ++ t) ≡ Found op n) × (take n (s ++ t) ≡ take n s) × (drop n (s ++ t) ≡ drop n s ++ t)
 front-append {op} {n} s t e =
-    let h : n ≤ length s = found s e .1 in
-    ( ap front (ap (λ l. l ++ t) (sym (take-append-drop n s)) ∙ append-assoc (take n s) (drop n s) t) ∙ front-prefix s e (drop n s ++ t)
+    let h : n ≤ length s = found e .within in
+    ( ap front (ap (λ l. l ++ t) (sym (take-append-drop n s)) ∙ append-assoc (take n s) (drop n s) t) ∙ found-prefix s (drop n s ++ t) e
     , take-append-le n s t h
     , drop-append-le n s t h )
 
@@ -121,7 +122,7 @@ items-valid s = along (λ s. ValidItems (itemsOf s)) (rw items-nil tt)
   where
     one : {op : Operation} {n : ℕ} (s : List ℕ) → front s ≡ Found op n → front (take n s) ≡ Found op (length (take n s))
     one {op} {n} s e =
-        rw (length-take-le n s (found s e .1)) (ap front (sym (append-nil (take n s))) ∙ front-prefix s e [])
+        rw (length-take-le n s (found e .within)) (ap front (sym (append-nil (take n s))) ∙ found-prefix s [] e)
 
 -- ---- the closing operations
 
@@ -157,5 +158,5 @@ closings-short s = along (λ s. 12 * length (closingIds (itemsOf s)) ≤ length 
   where
     go : (op : Operation) (n : ℕ) (s : List ℕ) → front s ≡ Found op n → (t : Bool) → closes op ≡ t → 12 * length (closingIds (itemsOf (drop n s))) ≤ length (drop n s)
       → 12 * length (cond t (idOf op ∷ closingIds (itemsOf (drop n s))) (closingIds (itemsOf (drop n s)))) ≤ length s
-    go op n s e true c r = omega (arith, length-drop n s, found s e, closing-long op c)
+    go op n s e true c r = omega (arith, length-drop n s, found e .within, found e .sized, closing-long op c)
     go op n s e false c r = omega (arith, length-drop n s)

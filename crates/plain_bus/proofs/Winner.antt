@@ -9,7 +9,7 @@ use mathlib.Core.Bool.{Bool, true, false, cond}
 use mathlib.Core.List.{List, [], _∷_, _++_}
 use lib.ListN.{length, getD}
 use Rattle.plain_bus.specs.Held.{Frame, Node, Bus, newNode, nodeAt}
-use Rattle.plain_bus.specs.Order.{Entry, goesBefore, Stands, entriesOf, entriesFrom, entries, Winner, nobody, wins, better, firstOf, winner}
+use Rattle.plain_bus.specs.Order.{Entry, goesBefore, Pending, entriesOf, entriesFrom, entries, Winner, nobody, wins, better, firstOf, winner}
 use Rattle.plain_bus.proofs.Ordering.{SamePlace, before-irreflexive, before-transitive, before-total, not-before-transitive}
 
 -- ---- the first of some entries
@@ -143,15 +143,15 @@ from-entries k (d ∷ ds) y h = go (h .number) (h .attached) (h .here) (from-ent
         among-right y (entriesOf k 0 (d .pending)) (entriesFrom (suc k) ds)
         (r (record { number = n; attached = omega arith; here = subst (λ (m : ℕ). Held m 0 (getD ds n newNode .pending) y) (omega arith) e }))
 
-stands-entries : (b : Bus) (y : Entry) → Stands b y → Among y (entries b)
-stands-entries b y s =
+pending-entries : (b : Bus) (y : Entry) → Pending b y → Among y (entries b)
+pending-entries b y s =
     from-entries 0 (b .nodes) y (record {
       number = y .owner;
       attached = s .attached;
       here = record { index = y .position; owner = omega arith; position = omega arith; placed = s .placed; held = s .held } })
 
-entries-stand : (b : Bus) (y : Entry) → Among y (entries b) → Stands b y
-entries-stand b y a =
+entries-pending : (b : Bus) (y : Entry) → Among y (entries b) → Pending b y
+entries-pending b y a =
     let h : HeldFrom 0 (b .nodes) y = entries-from 0 (b .nodes) y a in
     let o : h .number ≡ y .owner = omega (arith, h .here .owner) in
     let p : h .here .index ≡ y .position = omega (arith, h .here .position) in
@@ -172,14 +172,14 @@ unfolding winner
 won b w e = first-from (entries b) w e
 
 -- the winner is one of the pending frames
-pub winner-stands : (b : Bus) (w : Entry) → winner b ≡ wins w → Stands b w
-winner-stands b w e = let f = won b w e in entries-stand b w (rw (← same f) at (f .among))
+pub winner-pending : (b : Bus) (w : Entry) → winner b ≡ wins w → Pending b w
+winner-pending b w e = let f = won b w e in entries-pending b w (rw (← same f) at (f .among))
   where
     same : (f : First (wins w) (entries b)) → w ≡ f .entry
     same f = cc (f .first)
 
 -- entries at one place are one entry
-one-place : (b : Bus) (x y : Entry) → Stands b x → Stands b y → x .owner ≡ y .owner → x .position ≡ y .position → x ≡ y
+one-place : (b : Bus) (x y : Entry) → Pending b x → Pending b y → x .owner ≡ y .owner → x .position ≡ y .position → x ≡ y
 one-place b x y s t o p = λ i. record { owner = o i; position = p i; frame = same i }
   where
     any : (l : List Frame) (n : ℕ) (f g : Frame) → n < length l → getD l n f ≡ getD l n g
@@ -192,21 +192,21 @@ one-place b x y s t o p = λ i. record { owner = o i; position = p i; frame = sa
         ∙ rw (o, p) (t .held)
 
 -- the winner goes before every other pending frame
-pub winner-first : (b : Bus) (w : Entry) → winner b ≡ wins w → (y : Entry) → Stands b y → (y ≡ w) ⊎ (goesBefore w y ≡ true)
+pub winner-first : (b : Bus) (w : Entry) → winner b ≡ wins w → (y : Entry) → Pending b y → (y ≡ w) ⊎ (goesBefore w y ≡ true)
 winner-first b w e y s = go (goesBefore w y) refl
   where
     f : First (wins w) (entries b)
     f = won b w e
     least : goesBefore y w ≡ false
-    least = let q : w ≡ f .entry = cc (f .first) in rw q (f .least y (stands-entries b y s))
+    least = let q : w ≡ f .entry = cc (f .first) in rw q (f .least y (pending-entries b y s))
     go : (t : Bool) → goesBefore w y ≡ t → (y ≡ w) ⊎ (goesBefore w y ≡ true)
     go true q = inr q
-    go false q = let p : SamePlace y w = before-total y w least q in inl (one-place b y w s (winner-stands b w e) (p .owner) (p .position))
+    go false q = let p : SamePlace y w = before-total y w least q in inl (one-place b y w s (winner-pending b w e) (p .owner) (p .position))
 
 -- the first one is unique: what goes before every other is the winner
-pub winner-unique : (b : Bus) (w v : Entry) → winner b ≡ wins w → Stands b v
-    → ((y : Entry) → Stands b y → (y ≡ v) ⊎ (goesBefore v y ≡ true)) → v ≡ w
-winner-unique b w v e s h = go (winner-first b w e v s) (h w (winner-stands b w e))
+pub winner-unique : (b : Bus) (w v : Entry) → winner b ≡ wins w → Pending b v
+    → ((y : Entry) → Pending b y → (y ≡ v) ⊎ (goesBefore v y ≡ true)) → v ≡ w
+winner-unique b w v e s h = go (winner-first b w e v s) (h w (winner-pending b w e))
   where
     go : (v ≡ w) ⊎ (goesBefore w v ≡ true) → (w ≡ v) ⊎ (goesBefore v w ≡ true) → v ≡ w
     go (inl q) r = q
@@ -214,9 +214,9 @@ winner-unique b w v e s h = go (winner-first b w e v s) (h w (winner-stands b w 
     go (inr q) (inr r) = let z : _≡_ {A = ℕ} 0 1 = cc (before-asymmetric w v r) in absurd (omega arith)
 
 -- there is no winner only where nothing is pending
-pub nobody-pending : (b : Bus) → winner b ≡ nobody → (y : Entry) → Stands b y → ⊥
+pub nobody-pending : (b : Bus) → winner b ≡ nobody → (y : Entry) → Pending b y → ⊥
 unfolding winner firstOf better
-nobody-pending b e y s = go (entries b) e (stands-entries b y s)
+nobody-pending b e y s = go (entries b) e (pending-entries b y s)
   where
     go : (xs : List Entry) → firstOf nobody xs ≡ nobody → Among y xs → ⊥
     go [] e a = a

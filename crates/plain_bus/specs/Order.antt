@@ -33,7 +33,7 @@ goesBefore x y =
     lowerOr (rankOf x) (rankOf y) (lowerOr (x .owner) (y .owner) (ltb (x .position) (y .position)))
 
 -- x is one of the pending frames of the bus: at its position among those of its node
-pub record Stands (b : Bus) (x : Entry) : Type 0 where
+pub record Pending (b : Bus) (x : Entry) : Type 0 where
   pub attached : x .owner < length (b .nodes)
   pub placed : x .position < length (nodeAt b (x .owner) .pending)
   pub held : getD (nodeAt b (x .owner) .pending) (x .position) (x .frame) ≡ x .frame
