@@ -1,4 +1,4 @@
--- What the laws of the bus need of reading and writing.
+-- What the bus itself writes reads as what was written.
 -- Assumes nothing.
 use mathlib.Core.Path.{_≡_, refl, sym, ap, _∙_, subst}
 use Prim.Native.Nat.{ℕ, zero, suc, _+_, _-_, _≤_, _<_}
@@ -17,27 +17,6 @@ use Rattle.decoder.specs.declared.Front.the-variants.{End, Fault, Found}
 use Rattle.decoder.proofs.Forward.{forward}
 use Rattle.decoder.proofs.Streams.{front-nil}
 use Rattle.plain_bus.specs.Valid.{ReadsAs}
-
--- ---- reading goes forward
-
-pub fault-moves : {number n : ℕ} (s : List ℕ) → front s ≡ Fault number n → 1 ≤ n
-fault-moves [] e = let z : _≡_ {A = ℕ} 0 1 = cc front-nil in absurd (omega arith)
-fault-moves (b ∷ s) e = rw e at (forward (b ∷ s) (omega arith)) .0
-
--- ---- a content rule of a list that was passed
-
-after-true : (t : Bool) (ts : List Bool) → allAfter t ts ≡ true → (t ≡ true) × ((i : ℕ) → getD ts i true ≡ true)
-unfolding allAfter
-after-true t [] e = (e, λ i. refl)
-after-true true (u ∷ us) e = let r = after-true u us e in (refl, at (r .0) (r .1))
-  where
-    at : u ≡ true → ((i : ℕ) → getD us i true ≡ true) → (i : ℕ) → getD (u ∷ us) i true ≡ true
-    at p q zero = p
-    at p q (suc i) = q i
-after-true false (u ∷ us) e = let z : _≡_ {A = ℕ} 0 1 = cc (after-true false us e .0) in absurd (omega arith)
-
-pub rule : (ts : List Bool) → all ts ≡ true → (i : ℕ) → getD ts i true ≡ true
-rule ts e = after-true true ts e .1
 
 -- ---- what the bus itself writes
 

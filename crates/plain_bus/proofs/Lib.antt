@@ -11,3 +11,5 @@ pub mod Tally
 pub mod Steps
 pub mod Kept
 pub mod Demand3
+pub mod Rounds
+pub mod Waiting

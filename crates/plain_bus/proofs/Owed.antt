@@ -10,6 +10,7 @@ use borrow.Author.Tests.{leb-true, le-leb}
 use Rattle.operation.specs.Format.{encode}
 use Rattle.operation.specs.Rules.{allAfter, oneOf, isBit, maxId, maxStandardId, maxExtendedId, errorCodes, rules, legal}
 use Rattle.operation.specs.declared.Operation.{Operation}
+use Rattle.operation.proofs.Tests.{passed}
 use Rattle.operation.specs.declared.Operation.the-variants.{FormatError, CanTransmit, FdTransmit, XlTransmit, Confirm, ArbitrationLost, BusError, Configuration, Status, Wakeup}
 use Rattle.decoder.specs.Stream.{itemsOf}
 use Rattle.decoder.proofs.Found.{found}
@@ -19,7 +20,7 @@ use Rattle.plain_bus.specs.Order.{Entry}
 use Rattle.plain_bus.specs.Round.{Injection, noError, injected, primaryErrorFlag, secondaryErrorFlag, winnerId, newsFor, losers, lostNotices, told, owed}
 use Rattle.plain_bus.specs.Valid.{ReadsAs, ValidFrame, ValidFrames, Whole}
 use Rattle.plain_bus.specs.Session.{closingIds, pendingIds}
-use Rattle.plain_bus.proofs.Codec.{rule, reads-confirm, reads-lost, reads-bus-error}
+use Rattle.plain_bus.proofs.Codec.{reads-confirm, reads-lost, reads-bus-error}
 use Rattle.plain_bus.proofs.Whole.{items-append, whole-append, whole-nil, items-nil, items-one, whole-one, closing-append}
 use Rattle.plain_bus.proofs.Changes.{LegalInjection}
 
@@ -35,12 +36,12 @@ id-low ide id e = go (eqb ide 0) e
 pub legal-id : (op : Operation) → legal op ≡ true → idOf op ≤ maxExtendedId
 unfolding legal rules
 legal-id (FormatError n) e = omega arith
-legal-id (CanTransmit id ide rtr dl) e = id-low ide id (rule _ e 1)
-legal-id (FdTransmit id ide brs esi dl) e = id-low ide id (rule _ e 1)
-legal-id (XlTransmit id ide sec sdt vcid af dl) e = id-low ide id (rule _ e 1)
-legal-id (Confirm id) e = leb-true id maxExtendedId (rule _ e 0)
-legal-id (ArbitrationLost id) e = leb-true id maxExtendedId (rule _ e 0)
-legal-id (BusError id code flag sender) e = leb-true id maxExtendedId (rule _ e 0)
+legal-id (CanTransmit id ide rtr dl) e = id-low ide id (passed _ e 1)
+legal-id (FdTransmit id ide brs esi dl) e = id-low ide id (passed _ e 1)
+legal-id (XlTransmit id ide sec sdt vcid af dl) e = id-low ide id (passed _ e 1)
+legal-id (Confirm id) e = leb-true id maxExtendedId (passed _ e 0)
+legal-id (ArbitrationLost id) e = leb-true id maxExtendedId (passed _ e 0)
+legal-id (BusError id code flag sender) e = leb-true id maxExtendedId (passed _ e 0)
 legal-id (Configuration kind value) e = omega arith
 legal-id (Status status) e = omega arith
 legal-id Wakeup e = omega arith

@@ -10,6 +10,7 @@ use lib.ListN.{length, getD, set, length-append, length-set}
 use borrow.Author.Tests.{leb-true}
 use Rattle.operation.specs.Rules.{oneOf, settingRule, rules, legal, statuses, behaviours}
 use Rattle.operation.specs.declared.Operation.{Operation}
+use Rattle.operation.proofs.Tests.{passed}
 use Rattle.operation.specs.declared.Operation.the-variants.{Configuration, Status}
 use Rattle.plain_bus.specs.Held.{Frame, Node, maxPending, queueCapacity, busOff, isOff, discards, withStatus, withBehaviour, withRates, withPending, withQueue, enqueue}
 use Rattle.plain_bus.specs.Submit.{cleared, configure, setStatus}
@@ -17,7 +18,6 @@ use Rattle.plain_bus.specs.Order.{Entry}
 use Rattle.plain_bus.specs.Round.{Injection, without, losers, told, stay, owed, settle}
 use Rattle.plain_bus.specs.Register.{Register, Update}
 use Rattle.plain_bus.specs.Valid.{ValidFrame, ValidFrames, NonZero, ValidNode}
-use Rattle.plain_bus.proofs.Codec.{rule}
 use Rattle.plain_bus.proofs.Changes.{Change, still, ignored, joined, configured, statusSet, answered, settled, collected}
 
 -- ---- pending frames
@@ -55,11 +55,11 @@ non-zero-set (y ∷ l) (suc i) x h a = (a .0, non-zero-set l i x h (a .1))
 
 setting-legal : (kind value : ℕ) → legal (Configuration kind value) ≡ true → settingRule kind value ≡ true
 unfolding legal rules
-setting-legal kind value e = rule _ e 2
+setting-legal kind value e = passed _ e 2
 
 status-legal : (status : ℕ) → legal (Status status) ≡ true → oneOf status statuses ≡ true
 unfolding legal rules
-status-legal status e = rule _ e 0
+status-legal status e = passed _ e 0
 
 -- ---- each setter
 

@@ -22,11 +22,16 @@ use Rattle.decoder.specs.declared.Front.the-variants.{End, Fault, Found}
 use Rattle.plain_bus.specs.Kinds.{idOf, closes}
 use Rattle.plain_bus.specs.Valid.{ReadsAs, noFault, Whole}
 use Rattle.plain_bus.specs.Session.{count, closingIds}
+use Rattle.decoder.proofs.Forward.{forward}
 use Rattle.decoder.proofs.Found.{found, found-prefix}
 use Rattle.decoder.proofs.Streams.{front-nil, end-empty, unroll}
-use Rattle.plain_bus.proofs.Codec.{fault-moves}
 
 -- ---- induction along the reading
+
+-- a fault takes up at least a byte
+fault-moves : {number n : ℕ} (s : List ℕ) → front s ≡ Fault number n → 1 ≤ n
+fault-moves [] e = let z : _≡_ {A = ℕ} 0 1 = cc front-nil in absurd (omega arith)
+fault-moves (b ∷ s) e = rw e at (forward (b ∷ s) (omega arith)) .0
 
 module _ (P : List ℕ → Type 0) (none : P [])
   (faulty : (number n : ℕ) (s : List ℕ) → front s ≡ Fault number n → P (drop n s) → P s)
