@@ -13,3 +13,4 @@ pub mod Kept
 pub mod Demand3
 pub mod Rounds
 pub mod Waiting
+pub mod Registers

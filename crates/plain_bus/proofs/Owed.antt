@@ -15,7 +15,7 @@ use Rattle.operation.specs.declared.Operation.the-variants.{FormatError, CanTra
 use Rattle.decoder.specs.Stream.{itemsOf}
 use Rattle.decoder.proofs.Found.{found}
 use Rattle.plain_bus.specs.Kinds.{isTransmit, idOf, closes}
-use Rattle.plain_bus.specs.Held.{Frame, Node, isOff, discards}
+use Rattle.plain_bus.specs.Held.{Frame, Node, isOff}
 use Rattle.plain_bus.specs.Order.{Entry}
 use Rattle.plain_bus.specs.Round.{Injection, noError, injected, primaryErrorFlag, secondaryErrorFlag, winnerId, newsFor, losers, lostNotices, told, owed}
 use Rattle.plain_bus.specs.Valid.{ReadsAs, ValidFrame, ValidFrames, Whole}

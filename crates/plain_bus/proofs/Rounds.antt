@@ -14,7 +14,7 @@ use Rattle.plain_bus.specs.Held.{Frame, Node, Bus, lastRound, discards, 
 use Rattle.plain_bus.specs.Refusal.{Refusal, notAttached, bufferTooLong, badInjection, queueFull, roundsUsedUp, roomTooSmall}
 use Rattle.plain_bus.specs.Submit.{Step, done, fails, takeItems}
 use Rattle.plain_bus.specs.Order.{Entry, Pending, Winner, nobody, wins, winner}
-use Rattle.plain_bus.specs.Round.{Injection, isErrored, winnerId, without, losers, stay, owed, settle, afterRound, age}
+use Rattle.plain_bus.specs.Round.{Injection, isErrored, winnerId, without, losers, drops, stay, owed, settle, afterRound, age}
 use Rattle.plain_bus.specs.Calls.{Answer, refused, accepted, idle, carried, collected, Outcome, gives, refuses, maxSubmit, taken, submit, wrongInjection, arbitrate, runRound, collect}
 use Rattle.plain_bus.specs.Valid.{ValidFrames, ValidNode, Valid}
 use Rattle.plain_bus.specs.Session.{Call, submission, round, collection, call}
@@ -134,19 +134,19 @@ module _ (b : Bus) (e : Injection) (w : Entry) where
 
   -- a node that discards has nothing pending, the sender's other frames included
   pub discarded : (j : ℕ) → j < length (b .nodes) → discards (nodeAt b j) ≡ true → nodeAt (afterRound e w b) j .pending ≡ []
-  unfolding stay
+  unfolding stay drops
   discarded j h t = round-pending j h ∙ rw t
 
   -- a sender that buffers keeps all its pending frames but the winner
   pub winner-removed : w .owner < length (b .nodes) → discards (nodeAt b (w .owner)) ≡ false
       → nodeAt (afterRound e w b) (w .owner) .pending ≡ without (w .position) (nodeAt b (w .owner) .pending)
-  unfolding stay losers
+  unfolding stay drops losers
   winner-removed h t = round-pending (w .owner) h ∙ rw (t, eq-eqb (w .owner) (w .owner) refl)
 
   -- another node that buffers keeps them all, with their acceptance rounds
   pub losers-wait : (j : ℕ) → j < length (b .nodes) → (j ≡ w .owner → ⊥) → discards (nodeAt b j) ≡ false
       → nodeAt (afterRound e w b) j .pending ≡ nodeAt b j .pending
-  unfolding stay losers
+  unfolding stay drops losers
   losers-wait j h n t = round-pending j h ∙ rw (t, ne-eqb j (w .owner) n)
 
 -- one frame less

@@ -14,10 +14,10 @@ use Rattle.operation.specs.Rules.{maxExtendedId}
 use Rattle.operation.specs.declared.Operation.{Operation}
 use Rattle.decoder.specs.Stream.{Item, operation, fault, itemsOf}
 use Rattle.plain_bus.specs.Kinds.{idOf, closes}
-use Rattle.plain_bus.specs.Held.{Frame, Node, maxPending, queueCapacity, busOff, isOff, discards, withStatus, withBehaviour, withRates, withPending, withQueue, enqueue}
+use Rattle.plain_bus.specs.Held.{Frame, Node, maxPending, queueCapacity, busOff, isOff, withStatus, withBehaviour, withRates, withPending, withQueue, enqueue}
 use Rattle.plain_bus.specs.Submit.{accept, cleared, configure, setStatus}
 use Rattle.plain_bus.specs.Order.{Entry}
-use Rattle.plain_bus.specs.Round.{Injection, winnerId, without, losers, told, stay, owed, settle}
+use Rattle.plain_bus.specs.Round.{Injection, winnerId, without, losers, drops, told, stay, owed, settle}
 use Rattle.plain_bus.specs.Valid.{ReadsAs, ValidFrame, ValidFrames, ValidNode, Whole}
 use Rattle.plain_bus.specs.Register.{Register, maxOpen, withOpened, noneAbove, validRegister, Update, updated, rejected, updates, openId, noteStatus, isOpen, remove, closeId, readItem, read}
 use Rattle.plain_bus.specs.Session.{count, times, pendingIds, closingIds}
@@ -144,7 +144,7 @@ count-without p (suc i) (g ∷ fs) f h e =
 round-splits : (p : ℕ → Bool) (w : Entry) (j : ℕ) (d : Node) → (eqb j (w .owner) ≡ true → Own w d)
     → count p (pendingIds (d .pending)) ≡ count p (pendingIds (stay w j d)) + count p (cond (eqb j (w .owner)) (winnerId w ∷ []) [] ++ pendingIds (told w j d))
 unfolding stay told losers pendingIds count
-round-splits p w j d own = go (eqb j (w .owner)) (discards d) own
+round-splits p w j d own = go (eqb j (w .owner)) (drops w j d) own
   where
     go : (u t : Bool) → (u ≡ true → Own w d)
       → let l = cond u (without (w .position) (d .pending)) (d .pending) in

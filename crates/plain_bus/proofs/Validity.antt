@@ -12,10 +12,10 @@ use Rattle.operation.specs.Rules.{oneOf, settingRule, rules, legal, statuses, b
 use Rattle.operation.specs.declared.Operation.{Operation}
 use Rattle.operation.proofs.Tests.{passed}
 use Rattle.operation.specs.declared.Operation.the-variants.{Configuration, Status}
-use Rattle.plain_bus.specs.Held.{Frame, Node, maxPending, queueCapacity, busOff, isOff, discards, withStatus, withBehaviour, withRates, withPending, withQueue, enqueue}
+use Rattle.plain_bus.specs.Held.{Frame, Node, maxPending, queueCapacity, busOff, isOff, withStatus, withBehaviour, withRates, withPending, withQueue, enqueue}
 use Rattle.plain_bus.specs.Submit.{cleared, configure, setStatus}
 use Rattle.plain_bus.specs.Order.{Entry}
-use Rattle.plain_bus.specs.Round.{Injection, without, losers, told, stay, owed, settle}
+use Rattle.plain_bus.specs.Round.{Injection, without, losers, drops, told, stay, owed, settle}
 use Rattle.plain_bus.specs.Register.{Register, Update}
 use Rattle.plain_bus.specs.Valid.{ValidFrame, ValidFrames, NonZero, ValidNode}
 use Rattle.plain_bus.proofs.Changes.{Change, still, ignored, joined, configured, statusSet, answered, settled, collected}
@@ -114,7 +114,7 @@ record Staying (now : ℕ) (d : Node) (fs : List Frame) : Type 0 where
 
 stay-valid : (now : ℕ) (d : Node) (w : Entry) (j : ℕ) → ValidNode now d → Staying now d (stay w j d)
 unfolding stay losers without
-stay-valid now d w j v = go (discards d) (eqb j (w .owner))
+stay-valid now d w j v = go (drops w j d) (eqb j (w .owner))
   where
     go : (t u : Bool) → Staying now d (cond t [] (cond u (without (w .position) (d .pending)) (d .pending)))
     go true u = record { few = omega arith; silent = λ q. refl; frames = tt }
@@ -127,7 +127,7 @@ stay-valid now d w j v = go (discards d) (eqb j (w .owner))
 -- the frames that are told
 pub told-valid : (now : ℕ) (d : Node) (w : Entry) (j : ℕ) → ValidNode now d → ValidFrames 0 now (told w j d)
 unfolding told losers
-told-valid now d w j v = go (discards d) (eqb j (w .owner))
+told-valid now d w j v = go (drops w j d) (eqb j (w .owner))
   where
     go : (t u : Bool) → ValidFrames 0 now (cond t (cond u (without (w .position) (d .pending)) (d .pending)) [])
     go false u = tt

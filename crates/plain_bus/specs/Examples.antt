@@ -157,5 +157,5 @@ printed [] = []
 printed (l ∷ ls) = l .answer ∷ printed ls
 
 w1-to-w10 : computed table ≡ printed table
-unfolding computed printed table answerTo played allNumbers answerNumbers pendingCounts queues faultNumber w1 w2 w3 w4 confirm16 transmit16 discard twelve ok yes′ no′ fiveTransmits header encode allAfter oneOf fdLength rules legal shapeOf verdict judge decode front itemsUpTo itemsOf Held.eachNode Held.everyNode Submit.takeTransmit Submit.configure Submit.setStatus Submit.takeWakeup Submit.answerFormatError Submit.takeItem Submit.takeItems Order.rank Order.goesBefore Order.entriesOf Order.entriesFrom Order.better Order.firstOf Order.winner Round.newsFor Round.without Round.losers Round.lostNotices Round.told Round.stay Round.owed Round.settle Round.afterRound Round.age Calls.start Calls.submit Calls.wrongInjection Calls.arbitrate Calls.runRound Calls.collect call calls answers
+unfolding computed printed table answerTo played allNumbers answerNumbers pendingCounts queues faultNumber w1 w2 w3 w4 confirm16 transmit16 discard twelve ok yes′ no′ fiveTransmits header encode allAfter oneOf fdLength rules legal shapeOf verdict judge decode front itemsUpTo itemsOf Held.eachNode Held.everyNode Submit.takeTransmit Submit.configure Submit.setStatus Submit.takeWakeup Submit.answerFormatError Submit.takeItem Submit.takeItems Order.rank Order.goesBefore Order.entriesOf Order.entriesFrom Order.better Order.firstOf Order.winner Round.newsFor Round.without Round.losers Round.lostNotices Round.drops Round.told Round.stay Round.owed Round.settle Round.afterRound Round.age Calls.start Calls.submit Calls.wrongInjection Calls.arbitrate Calls.runRound Calls.collect call calls answers
 w1-to-w10 = refl
