@@ -33,14 +33,14 @@ pub data Change : ℕ → ℕ → (Register → Update) → Node → Node → Ty
   still : {now : ℕ} {d : Node} → Change now now updated d d
   ignored : {now : ℕ} {d : Node} (id : ℕ) → isOff d ≡ true → Change now now (λ x. openId x id) d d
   joined : {now : ℕ} {d : Node} (f : Frame) → isOff d ≡ false → length (d .pending) < maxPending → ValidFrame f → f .accepted ≡ now
-    → Change now now (λ x. openId x (idOf (f .op))) d (accept d f)
+      → Change now now (λ x. openId x (idOf (f .op))) d (accept d f)
   configured : {now : ℕ} {d : Node} (kind value : ℕ) → legal (Configuration kind value) ≡ true
-    → Change now now updated d (configure d kind value)
+      → Change now now updated d (configure d kind value)
   statusSet : {now : ℕ} {d : Node} (status : ℕ) → legal (Status status) ≡ true
-    → Change now now (λ x. updated (noteStatus x status)) d (setStatus d status)
+      → Change now now (λ x. updated (noteStatus x status)) d (setStatus d status)
   answered : {now : ℕ} {d : Node} (op : Operation) (bytes : List ℕ) → ReadsAs op bytes → closes op ≡ false
-    → length (d .queue) + length bytes ≤ queueCapacity → Change now now updated d (enqueue d bytes)
+      → length (d .queue) + length bytes ≤ queueCapacity → Change now now updated d (enqueue d bytes)
   settled : {now : ℕ} {d : Node} (e : Injection) (w : Entry) (j : ℕ) → LegalInjection e → ValidFrame (w .frame)
-    → (eqb j (w .owner) ≡ true → Own w d) → length (d .queue) + length (owed e w j d) ≤ queueCapacity
-    → Change now (now + 1) updated d (settle e w j d)
+      → (eqb j (w .owner) ≡ true → Own w d) → length (d .queue) + length (owed e w j d) ≤ queueCapacity
+      → Change now (now + 1) updated d (settle e w j d)
   collected : {now : ℕ} {d : Node} → Change now now (λ x. read x (d .queue)) d (withQueue d [])

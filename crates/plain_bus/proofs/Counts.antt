@@ -32,7 +32,7 @@ count-remove p id [] h = let z : _≡_ {A = ℕ} 0 1 = cc in absurd (omega arith
 count-remove p id (x ∷ l) h = go (eqb x id) refl h (count-remove p id l)
   where
     go : (t : Bool) → eqb x id ≡ t → (t || isOpen id l) ≡ true → (isOpen id l ≡ true → cond (p id) 1 0 + count p (remove id l) ≡ count p l)
-      → cond (p id) 1 0 + count p (cond t l (x ∷ remove id l)) ≡ cond (p x) 1 0 + count p l
+        → cond (p id) 1 0 + count p (cond t l (x ∷ remove id l)) ≡ cond (p x) 1 0 + count p l
     go true e h f = rw (eqb-true x id e)
     go false e h f = let g : cond (p id) 1 0 + count p (remove id l) ≡ count p l = f h in omega arith
 
@@ -53,6 +53,6 @@ none-above m [] h = refl
 none-above m (x ∷ l) h = go (leb x m) h (none-above m l)
   where
     go : (t : Bool) → cond (not t) 1 0 + count (λ x. not (leb x m)) l ≡ 0 → (count (λ x. not (leb x m)) l ≡ 0 → noneAbove m l ≡ true)
-      → (t && noneAbove m l) ≡ true
+        → (t && noneAbove m l) ≡ true
     go true h f = f (omega arith)
     go false h f = absurd (omega arith)

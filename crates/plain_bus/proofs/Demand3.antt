@@ -48,7 +48,9 @@ step-agrees b b′ k call rs s h a =
       agree = record {
         sound = step-sound b b′ k call s h (a .sound);
         size = length-set rs k (t .0) ∙ a .size ∙ sym (s .size);
-        each = λ j l. at (t .0) (t .2) j (rw (s .size) at l) (eqb j k) refl } }
+        each = λ j l. at (t .0) (t .2) j (rw (s .size) at l) (eqb j k) refl;
+      };
+    }
   where
     at : (x : Register) → Tally (nodeAt b′ k) x → (j : ℕ) → j < length (b .nodes) → (t : Bool) → eqb j k ≡ t → Tally (nodeAt b′ j) (getD (set rs k x) j newRegister)
     at x t j l true e =
@@ -70,8 +72,8 @@ items-agree k [] b rs b′ v h a e =
 items-agree k (i ∷ is) b rs b′ v h a e = go (takeItem k b i) refl e (λ c qs l g f. items-agree k is c qs b′ (v .1) l g f)
   where
     go : (s : Step) → takeItem k b i ≡ s → takeItems k is s ≡ done b′
-      → ((c : Bus) (qs : List Register) → k < length (c .nodes) → Agree c qs → takeItems k is (done c) ≡ done b′ → Done b′ qs k (updates enterItem is (updated (getD qs k newRegister))))
-      → Done b′ rs k (updates enterItem is (enterItem (getD rs k newRegister) i))
+        → ((c : Bus) (qs : List Register) → k < length (c .nodes) → Agree c qs → takeItems k is (done c) ≡ done b′ → Done b′ qs k (updates enterItem is (updated (getD qs k newRegister))))
+        → Done b′ rs k (updates enterItem is (enterItem (getD rs k newRegister) i))
     go (fails r) q e f = never (sym (fails-stay k is r) ∙ e)
     go (done c) q e f =
         let s = item-step b k h i (v .0) q in
@@ -81,7 +83,8 @@ items-agree k (i ∷ is) b rs b′ v h a e = go (takeItem k b i) refl e (λ c qs
         record {
           register = r .register;
           result = ap (updates enterItem is) (x .result ∙ ap updated (sym here)) ∙ r .result;
-          agree = rw set-set at (r .agree) }
+          agree = rw set-set at (r .agree);
+        }
 
 -- ---- a call with its register call
 
@@ -100,8 +103,9 @@ submission-good w k buffer g = go (attached b k) refl (ltb maxSubmit (length buf
   where
     b : Bus
     b = w .bus
+
     go : (t : Bool) → attached (w .bus) k ≡ t → (u : Bool) (s : Step) → takeItems k (itemsOf buffer) (done (w .bus)) ≡ s
-      → Good (after w (submission k buffer) (cond (not t) (refuses notAttached (w .bus)) (cond u (refuses bufferTooLong (w .bus)) (taken (w .bus) s))))
+        → Good (after w (submission k buffer) (cond (not t) (refuses notAttached (w .bus)) (cond u (refuses bufferTooLong (w .bus)) (taken (w .bus) s))))
     go false q u s e = g
     go true q true s e = g
     go true q false (fails r) e = g
@@ -116,8 +120,8 @@ unfolding runRound arbitrate after followUp
 round-good w e g = go (wrongInjection (w .bus) e) refl (winner (w .bus)) refl
   where
     carry : (v : Entry) → wrongInjection (w .bus) e ≡ false → winner (w .bus) ≡ wins v → (t : Bool) → everyNode (λ j d. hasRoom d (owed e v j d)) 0 (w .bus .nodes) ≡ t
-      → (u : Bool) → leb lastRound (w .bus .round) ≡ u
-      → Good (after w (round e) (cond (not t) (refuses queueFull (w .bus)) (cond u (refuses roundsUsedUp (w .bus))
+        → (u : Bool) → leb lastRound (w .bus .round) ≡ u
+        → Good (after w (round e) (cond (not t) (refuses queueFull (w .bus)) (cond u (refuses roundsUsedUp (w .bus))
         (gives (carried (v .owner) (winnerId v) (isErrored e) (age (w .bus) v)) (afterRound e v (w .bus))))))
     carry v l q false qt u qu = g
     carry v l q true qt true qu = g
@@ -126,8 +130,9 @@ round-good w e g = go (wrongInjection (w .bus) e) refl (winner (w .bus)) refl
         let r = step-agrees (w .bus) (afterRound e v (w .bus)) (v .owner) updated (w .registers .each) s (winner-pending (w .bus) v q .attached) (g .agree) in
         let same : r .register ≡ getD (w .registers .each) (v .owner) newRegister = cc (r .result) in
         record { agree = rw (same, set-getD) at (r .agree); allDone = g .allDone }
+
     go : (t : Bool) → wrongInjection (w .bus) e ≡ t → (x : Winner) → winner (w .bus) ≡ x
-      → Good (after w (round e) (cond t (refuses badInjection (w .bus)) (arbitrate (w .bus) e x)))
+        → Good (after w (round e) (cond t (refuses badInjection (w .bus)) (arbitrate (w .bus) e x)))
     go true l x q = g
     go false l nobody q = g
     go false l (wins v) q = carry v l q (everyNode (λ j d. hasRoom d (owed e v j d)) 0 (w .bus .nodes)) refl (leb lastRound (w .bus .round)) refl
@@ -137,7 +142,7 @@ unfolding collect after followUp
 collection-good w k room g = go (attached (w .bus) k) refl (ltb room (length (nodeAt (w .bus) k .queue)))
   where
     go : (t : Bool) → attached (w .bus) k ≡ t → (u : Bool)
-      → Good (after w (collection k room) (cond (not t) (refuses notAttached (w .bus)) (cond u (refuses roomTooSmall (w .bus))
+        → Good (after w (collection k room) (cond (not t) (refuses notAttached (w .bus)) (cond u (refuses roomTooSmall (w .bus))
         (gives (collected (nodeAt (w .bus) k .queue)) (withNode (w .bus) k (withQueue (nodeAt (w .bus) k) []))))))
     go false q u = g
     go true q true = g
@@ -166,11 +171,13 @@ new-tally = record { counts = λ p. rw items-nil; flag = refl; shut = λ q. refl
 pub opening-good : (n : ℕ) (b : Bus) → start n ≡ done b → Good (opening b)
 unfolding opening
 opening-good n b e = record {
-    agree = record {
-      sound = start-sound n b e;
-      size = length-replicate (length (b .nodes)) newRegister;
-      each = λ j h. rw (getD-replicate (length (b .nodes)) j newRegister newRegister h, new-node n b e j h) new-tally };
-    allDone = refl }
+  agree = record {
+    sound = start-sound n b e;
+    size = length-replicate (length (b .nodes)) newRegister;
+    each = λ j h. rw (getD-replicate (length (b .nodes)) j newRegister newRegister h, new-node n b e j h) new-tally;
+  };
+  allDone = refl;
+}
 
 pub demand3 : Demand3
 demand3 n b e cs =

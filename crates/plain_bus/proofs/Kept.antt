@@ -28,14 +28,14 @@ use Rattle.plain_bus.proofs.Steps.{Stepped, bus-of, never, fails-stay, 
 -- ---- what every step keeps, every call keeps
 
 module _ (P : Bus → Type 0) (valid : (b : Bus) → P b → Valid b)
-  (step : (b b′ : Bus) (k : ℕ) (call : Register → Update) → Stepped b b′ k call → k < length (b .nodes) → P b → P b′) where
+    (step : (b b′ : Bus) (k : ℕ) (call : Register → Update) → Stepped b b′ k call → k < length (b .nodes) → P b → P b′) where
   items-keep : (k : ℕ) (is : List Item) (b : Bus) → ValidItems is → k < length (b .nodes) → P b → (b′ : Bus) → takeItems k is (done b) ≡ done b′ → P b′
   unfolding takeItems
   items-keep k [] b v h p b′ e = subst P (bus-of e) p
   items-keep k (i ∷ is) b v h p b′ e = go (takeItem k b i) refl e (λ c l q. items-keep k is c (v .1) l q b′)
     where
       go : (s : Step) → takeItem k b i ≡ s → takeItems k is s ≡ done b′
-        → ((c : Bus) → k < length (c .nodes) → P c → takeItems k is (done c) ≡ done b′ → P b′) → P b′
+          → ((c : Bus) → k < length (c .nodes) → P c → takeItems k is (done c) ≡ done b′ → P b′) → P b′
       go (fails r) q e f = never (sym (fails-stay k is r) ∙ e)
       go (done c) q e f =
           let s = item-step b k h i (v .0) q in
@@ -46,7 +46,7 @@ module _ (P : Bus → Type 0) (valid : (b : Bus) → P b → Valid b)
   submit-keeps b k buffer p = go (attached b k) refl (ltb maxSubmit (length buffer)) (takeItems k (itemsOf buffer) (done b)) refl
     where
       go : (t : Bool) → attached b k ≡ t → (u : Bool) (s : Step) → takeItems k (itemsOf buffer) (done b) ≡ s
-        → P (cond {A = Outcome} (not t) (refuses notAttached b) (cond u (refuses bufferTooLong b) (taken b s)) .bus)
+          → P (cond {A = Outcome} (not t) (refuses notAttached b) (cond u (refuses bufferTooLong b) (taken b s)) .bus)
       go false q u s e = p
       go true q true s e = p
       go true q false (fails r) e = p
@@ -57,13 +57,14 @@ module _ (P : Bus → Type 0) (valid : (b : Bus) → P b → Valid b)
   round-keeps b e p = go (wrongInjection b e) refl (winner b) refl
     where
       carry : (w : Entry) → wrongInjection b e ≡ false → winner b ≡ wins w → (t : Bool) → everyNode (λ j d. hasRoom d (owed e w j d)) 0 (b .nodes) ≡ t
-        → (u : Bool) → leb lastRound (b .round) ≡ u
-        → P (cond {A = Outcome} (not t) (refuses queueFull b) (cond u (refuses roundsUsedUp b) (gives (carried (w .owner) (winnerId w) (isErrored e) (age b w)) (afterRound e w b))) .bus)
+          → (u : Bool) → leb lastRound (b .round) ≡ u
+          → P (cond {A = Outcome} (not t) (refuses queueFull b) (cond u (refuses roundsUsedUp b) (gives (carried (w .owner) (winnerId w) (isErrored e) (age b w)) (afterRound e w b))) .bus)
       carry w l q false qt u qu = p
       carry w l q true qt true qu = p
       carry w l q true qt false qu =
           step b (afterRound e w b) (w .owner) updated (round-step b e w (valid b p) l q qt (leb-false lastRound (b .round) qu))
           (winner-pending b w q .attached) p
+
       go : (t : Bool) → wrongInjection b e ≡ t → (x : Winner) → winner b ≡ x → P (cond {A = Outcome} t (refuses badInjection b) (arbitrate b e x) .bus)
       go true l x q = p
       go false l nobody q = p
@@ -74,7 +75,7 @@ module _ (P : Bus → Type 0) (valid : (b : Bus) → P b → Valid b)
   collect-keeps b k room p = go (attached b k) refl (ltb room (length (nodeAt b k .queue)))
     where
       go : (t : Bool) → attached b k ≡ t → (u : Bool)
-        → P (cond {A = Outcome} (not t) (refuses notAttached b) (cond u (refuses roomTooSmall b) (gives (collected (nodeAt b k .queue)) (withNode b k (withQueue (nodeAt b k) [])))) .bus)
+          → P (cond {A = Outcome} (not t) (refuses notAttached b) (cond u (refuses roomTooSmall b) (gives (collected (nodeAt b k .queue)) (withNode b k (withQueue (nodeAt b k) [])))) .bus)
       go false q u = p
       go true q true = p
       go true q false = let h : k < length (b .nodes) = ltb-true k (length (b .nodes)) q in step b _ k _ (collect-step b k h) h p
@@ -102,15 +103,16 @@ by-number P k own other j = go (eqb j k) refl
 
 pub step-valid : (b b′ : Bus) (k : ℕ) (call : Register → Update) → Stepped b b′ k call → k < length (b .nodes) → Valid b → Valid b′
 step-valid b b′ k call s h v = record {
-    least = omega (arith, s .size, v .least);
-    most = omega (arith, s .size, v .most);
-    round = s .bound (v .round);
-    each = λ j l. at j (rw (s .size) at l) }
+  least = omega (arith, s .size, v .least);
+  most = omega (arith, s .size, v .most);
+  round = s .bound (v .round);
+  each = λ j l. at j (rw (s .size) at l);
+}
   where
     at : (j : ℕ) → j < length (b .nodes) → ValidNode (b′ .round) (nodeAt b′ j)
     at = by-number (λ j. j < length (b .nodes) → ValidNode (b′ .round) (nodeAt b′ j)) k
-      (λ l. change-valid (s .own) (v .each k h))
-      (λ j n l. change-valid (s .others j l n) (v .each j l))
+        (λ l. change-valid (s .own) (v .each k h))
+        (λ j n l. change-valid (s .others j l n) (v .each j l))
 
 -- every call keeps the bus valid
 pub valid-kept : (b : Bus) (c : Call) → Valid b → Valid (call b c .bus)
@@ -125,13 +127,14 @@ pub record Sound (b : Bus) : Type 0 where
 
 pub step-sound : (b b′ : Bus) (k : ℕ) (call : Register → Update) → Stepped b b′ k call → k < length (b .nodes) → Sound b → Sound b′
 step-sound b b′ k call s h p = record {
-    valid = step-valid b b′ k call s h (p .valid);
-    whole = λ j l. at j (rw (s .size) at l) }
+  valid = step-valid b b′ k call s h (p .valid);
+  whole = λ j l. at j (rw (s .size) at l);
+}
   where
     at : (j : ℕ) → j < length (b .nodes) → Whole (nodeAt b′ j .queue)
     at = by-number (λ j. j < length (b .nodes) → Whole (nodeAt b′ j .queue)) k
-      (λ l. change-whole (s .own) (p .valid .each k h) (p .whole k h))
-      (λ j n l. change-whole (s .others j l n) (p .valid .each j l) (p .whole j l))
+        (λ l. change-whole (s .own) (p .valid .each k h) (p .whole k h))
+        (λ j n l. change-whole (s .others j l n) (p .valid .each j l) (p .whole j l))
 
 -- every call keeps the queues of a valid bus sequences of whole operations
 pub whole-kept : (b : Bus) (c : Call) → Valid b → WholeQueues b → WholeQueues (call b c .bus)
@@ -142,8 +145,15 @@ whole-kept b c v w = call-keeps Sound (λ b p. p .valid) step-sound b c (record 
 new-valid : ValidNode 0 newNode
 unfolding oneOf
 new-valid = record {
-    status = refl; behaviour = refl; three = refl; rates = (omega arith, (omega arith, (omega arith, tt)));
-    room = omega arith; few = omega arith; silent = λ q. refl; frames = tt }
+  status = refl;
+  behaviour = refl;
+  three = refl;
+  rates = (omega arith, (omega arith, (omega arith, tt)));
+  room = omega arith;
+  few = omega arith;
+  silent = λ q. refl;
+  frames = tt;
+}
 
 -- an accepted start gives 2 to 8 new nodes
 pub record Started (n : ℕ) (b : Bus) : Type 0 where
@@ -177,5 +187,7 @@ start-sound n b e =
         least = omega (arith, s .least);
         most = omega (arith, s .most);
         round = omega arith;
-        each = λ k h. rw (← zero-round, new-node n b e k h) new-valid };
-      whole = λ k h. rw (new-node n b e k h) whole-nil }
+        each = λ k h. rw (← zero-round, new-node n b e k h) new-valid;
+      };
+      whole = λ k h. rw (new-node n b e k h) whole-nil;
+    }

@@ -33,8 +33,8 @@ every-from test k [] e j h = absurd (omega arith)
 every-from test k (d ∷ ds) e j h = go (test k d) refl e j h (every-from test (suc k) ds)
   where
     go : (t : Bool) → test k d ≡ t → (t && everyNode test (suc k) ds) ≡ true → (j : ℕ) → j < suc (length ds)
-      → (everyNode test (suc k) ds ≡ true → (j : ℕ) → j < length ds → test (suc k + j) (getD ds j newNode) ≡ true)
-      → test (k + j) (getD (d ∷ ds) j newNode) ≡ true
+        → (everyNode test (suc k) ds ≡ true → (j : ℕ) → j < length ds → test (suc k + j) (getD ds j newNode) ≡ true)
+        → test (k + j) (getD (d ∷ ds) j newNode) ≡ true
     go false q e j h r = let z : _≡_ {A = ℕ} 0 1 = cc in absurd (omega arith)
     go true q e zero h r = rw add-zero q
     go true q e (suc j) h r = ap (λ (n : ℕ). test n (getD ds j newNode)) (omega arith) ∙ r e j (omega arith)

@@ -20,8 +20,9 @@ lower-transitive a b c t u v p q r = go (ltb a b) refl (eqb a b) refl (ltb b c) 
   where
     lower : a < c → lowerOr a c v ≡ true
     lower h = rw (lt-ltb a c h)
+
     go : (x : Bool) → ltb a b ≡ x → (x′ : Bool) → eqb a b ≡ x′ → (y : Bool) → ltb b c ≡ y → (y′ : Bool) → eqb b c ≡ y′
-      → (x || x′ && t) ≡ true → (y || y′ && u) ≡ true → lowerOr a c v ≡ true
+        → (x || x′ && t) ≡ true → (y || y′ && u) ≡ true → lowerOr a c v ≡ true
     go true qx x′ qx′ true qy y′ qy′ p q = lower (omega (arith, ltb-true a b qx, ltb-true b c qy))
     go true qx x′ qx′ false qy true qy′ p q = lower (omega (arith, ltb-true a b qx, eqb-true b c qy′))
     go true qx x′ qx′ false qy false qy′ p q = let z : _≡_ {A = ℕ} 0 1 = cc in absurd (omega arith)
@@ -70,7 +71,8 @@ before-total x y p q =
     record {
       rank = a .0;
       owner = b .0;
-      position = omega (arith, ltb-false (x .position) (y .position) (b .1), ltb-false (y .position) (x .position) (b .2)) }
+      position = omega (arith, ltb-false (x .position) (y .position) (b .1), ltb-false (y .position) (x .position) (b .2));
+    }
 
 same-before : (x y z : Entry) → SamePlace x y → goesBefore z x ≡ goesBefore z y
 unfolding goesBefore

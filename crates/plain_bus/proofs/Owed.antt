@@ -61,8 +61,9 @@ says-nil = record { whole = whole-nil; closing = ap closingIds items-nil }
 
 pub says-append : {a b x y : List ℕ} → Says a x → Says b y → Says (a ++ b) (x ++ y)
 says-append {a} {b} s t = record {
-    whole = whole-append a b (s .whole) (t .whole);
-    closing = ap closingIds (items-append a b (s .whole)) ∙ closing-append (itemsOf a) (itemsOf b) ∙ cc (s .closing, t .closing) }
+  whole = whole-append a b (s .whole) (t .whole);
+  closing = ap closingIds (items-append a b (s .whole)) ∙ closing-append (itemsOf a) (itemsOf b) ∙ cc (s .closing, t .closing);
+}
 
 pub says-one : {op : Operation} {bytes : List ℕ} → ReadsAs op bytes → Says bytes (cond (closes op) (idOf op ∷ []) [])
 unfolding closingIds
@@ -107,8 +108,9 @@ says-news (injected code detector) w j d l v on = go (eqb j (w .owner)) (isOff d
   where
     error : (own first : Bool) → Says (encode (BusError (winnerId w) code (cond first primaryErrorFlag secondaryErrorFlag) (cond own 1 0)) []) (cond (eqb (cond own 1 0) 1) (winnerId w ∷ []) [])
     error own first = says-one (reads-bus-error (winnerId w) code _ _ (error-legal (winnerId w) code first own (read-id (w .frame .bytes) (v .reads)) l))
+
     go : (own off first : Bool) → (own ≡ true → off ≡ false)
-      → Says (cond off [] (encode (BusError (winnerId w) code (cond first primaryErrorFlag secondaryErrorFlag) (cond own 1 0)) [])) (cond own (winnerId w ∷ []) [])
+        → Says (cond off [] (encode (BusError (winnerId w) code (cond first primaryErrorFlag secondaryErrorFlag) (cond own 1 0)) [])) (cond own (winnerId w ∷ []) [])
     go true true first on = let z : _≡_ {A = ℕ} 0 1 = cc (on refl) in absurd (omega arith)
     go false true first on = says-nil
     go true false first on = error true first

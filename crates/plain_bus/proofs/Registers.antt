@@ -98,13 +98,14 @@ unfolding openId
 open-fits r id h f = go (r .off) refl (leb maxOpen (length (r .opened))) refl
   where
     go : (o : Bool) → r .off ≡ o → (t : Bool) → leb maxOpen (length (r .opened)) ≡ t
-      → FitsAfter (cond o (updated r) (cond t (rejected registerFull) (updated (withOpened r (r .opened ++ id ∷ [])))))
+        → FitsAfter (cond o (updated r) (cond t (rejected registerFull) (updated (withOpened r (r .opened ++ id ∷ [])))))
     go true qo t qt = f
     go false qo true qt = tt
     go false qo false qt = record {
-        few = rw length-append (omega (arith, leb-false maxOpen (length (r .opened)) qt));
-        low = none-above-append maxExtendedId (r .opened) id (f .low) h;
-        shut = λ o. false-is-true (sym qo ∙ o) }
+      few = rw length-append (omega (arith, leb-false maxOpen (length (r .opened)) qt));
+      low = none-above-append maxExtendedId (r .opened) id (f .low) h;
+      shut = λ o. false-is-true (sym qo ∙ o);
+    }
 
 status-fits : (r : Register) (status : ℕ) → Fits r → Fits (noteStatus r status)
 unfolding noteStatus noneAbove
@@ -134,9 +135,10 @@ read-fits r (operation op bytes) v f = go (closes op) (isOpen (idOf op) (r .open
   where
     go : (t u : Bool) → FitsAfter (cond t (cond u (updated (withOpened r (remove (idOf op) (r .opened)))) (rejected registerDiffers)) (updated r))
     go true true = record {
-        few = omega (arith, length-remove (idOf op) (r .opened), f .few);
-        low = none-above-remove maxExtendedId (idOf op) (r .opened) (f .low);
-        shut = λ o. omega (arith, length-remove (idOf op) (r .opened), f .shut o) }
+      few = omega (arith, length-remove (idOf op) (r .opened), f .few);
+      low = none-above-remove maxExtendedId (idOf op) (r .opened) (f .low);
+      shut = λ o. omega (arith, length-remove (idOf op) (r .opened), f .shut o);
+    }
     go true false = tt
     go false u = f
 read-fits r (fault number bytes) v f = f

@@ -49,10 +49,11 @@ unchanged b (submission k buffer) = go (attached b k) (ltb maxSubmit (length buf
 unchanged b (round e) = go (wrongInjection b e) (winner b)
   where
     carry : (w : Entry) (t u : Bool)
-      → Same b (cond (not t) (refuses queueFull b) (cond u (refuses roundsUsedUp b) (gives (carried (w .owner) (winnerId w) (isErrored e) (age b w)) (afterRound e w b))))
+        → Same b (cond (not t) (refuses queueFull b) (cond u (refuses roundsUsedUp b) (gives (carried (w .owner) (winnerId w) (isErrored e) (age b w)) (afterRound e w b))))
     carry w false u = λ e. refl
     carry w true true = λ e. refl
     carry w true false = λ e. differs e
+
     go : (t : Bool) (x : Winner) → Same b (cond t (refuses badInjection b) (arbitrate b e x))
     go true x = λ e. refl
     go false nobody = λ e. refl
@@ -90,11 +91,13 @@ round-carried b e {s} {i} {a} {t} q = go (wrongInjection b e) (winner b) refl q
   where
     Out : Outcome → Type 0
     Out o = o .answer ≡ carried s i t a → Carried b e s i t a (o .bus)
+
     carry : (w : Entry) → winner b ≡ wins w → (x y : Bool)
-      → Out (cond (not x) (refuses queueFull b) (cond y (refuses roundsUsedUp b) (gives (carried (w .owner) (winnerId w) (isErrored e) (age b w)) (afterRound e w b))))
+        → Out (cond (not x) (refuses queueFull b) (cond y (refuses roundsUsedUp b) (gives (carried (w .owner) (winnerId w) (isErrored e) (age b w)) (afterRound e w b))))
     carry w q false y = λ f. let z : _≡_ {A = ℕ} 0 1 = cc in absurd (omega arith)
     carry w q true true = λ f. let z : _≡_ {A = ℕ} 0 1 = cc in absurd (omega arith)
     carry w q true false = λ f. record { entry = w; won = q; sender = cc; named = cc; errored = cc; aged = cc; bus = refl }
+
     go : (x : Bool) (v : Winner) → winner b ≡ v → Out (cond x (refuses badInjection b) (arbitrate b e v))
     go true v q = λ f. let z : _≡_ {A = ℕ} 0 1 = cc in absurd (omega arith)
     go false nobody q = λ f. let z : _≡_ {A = ℕ} 0 1 = cc in absurd (omega arith)
@@ -111,7 +114,7 @@ unfolding age
 age-difference b w v q =
     let s : Pending b w = winner-pending b w q in
     let h : w .frame .accepted ≤ b .round =
-      accepted-by 0 (b .round) (w .position) (nodeAt b (w .owner) .pending) (w .frame) (v .each (w .owner) (s .attached) .frames) (s .placed) (s .held) in
+    accepted-by 0 (b .round) (w .position) (nodeAt b (w .owner) .pending) (w .frame) (v .each (w .owner) (s .attached) .frames) (s .placed) (s .held) in
     omega arith
 
 module _ (b : Bus) (e : Injection) (w : Entry) where

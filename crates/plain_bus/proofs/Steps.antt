@@ -55,10 +55,11 @@ module _ (b : Bus) (k : ℕ) (h : k < length (b .nodes)) where
   -- only node k is changed
   node-step : {call : Register → Update} (d′ : Node) → Change (b .round) (b .round) call (nodeAt b k) d′ → Stepped b (withNode b k d′) k call
   node-step d′ c = record {
-      size = length-set (b .nodes) k d′;
-      bound = λ l. l;
-      own = rw (getD-set-same (b .nodes) k d′ newNode h) c;
-      others = λ j l n. rw (getD-set-other (b .nodes) k j d′ newNode n) still }
+    size = length-set (b .nodes) k d′;
+    bound = λ l. l;
+    own = rw (getD-set-same (b .nodes) k d′ newNode h) c;
+    others = λ j l n. rw (getD-set-other (b .nodes) k j d′ newNode n) still;
+  }
 
   same-step : {call : Register → Update} → Change (b .round) (b .round) call (nodeAt b k) (nodeAt b k) → Stepped b b k call
   same-step c = record { size = refl; bound = λ l. l; own = c; others = λ j l n. still }
@@ -70,8 +71,9 @@ module _ (b : Bus) (k : ℕ) (h : k < length (b .nodes)) where
     where
       f : Frame
       f = record { op = op; bytes = bytes; accepted = b .round }
+
       go : (o : Bool) → isOff (nodeAt b k) ≡ o → (p : Bool) → leb maxPending (length (nodeAt b k .pending)) ≡ p
-        → cond o (done b) (cond p (fails fourPending) (done (withNode b k (accept (nodeAt b k) f)))) ≡ done b′ → Stepped b b′ k (λ x. openId x (idOf op))
+          → cond o (done b) (cond p (fails fourPending) (done (withNode b k (accept (nodeAt b k) f)))) ≡ done b′ → Stepped b b′ k (λ x. openId x (idOf op))
       go true qo p qp e = subst (λ (y : Bus). Stepped b y k (λ x. openId x (idOf op))) (bus-of e) (same-step (ignored (idOf op) qo))
       go false qo true qp e = never e
       go false qo false qp e =
@@ -88,7 +90,7 @@ module _ (b : Bus) (k : ℕ) (h : k < length (b .nodes)) where
   answer-step bytes {b′} e = go (hasRoom (nodeAt b k) (formatError bytes)) refl e
     where
       go : (t : Bool) → hasRoom (nodeAt b k) (formatError bytes) ≡ t
-        → cond t (done (withNode b k (enqueue (nodeAt b k) (formatError bytes)))) (fails queueFull) ≡ done b′ → Stepped b b′ k updated
+          → cond t (done (withNode b k (enqueue (nodeAt b k) (formatError bytes)))) (fails queueFull) ≡ done b′ → Stepped b b′ k updated
       go false q e = never e
       go true q e =
           let room : length (nodeAt b k .queue) + length (formatError bytes) ≤ queueCapacity = leb-true _ queueCapacity q in
@@ -107,19 +109,21 @@ module _ (b : Bus) (k : ℕ) (h : k < length (b .nodes)) where
   wakeup-step {b′} e = go (isOff (nodeAt b k)) (everyNode (λ j d. hasRoom d (wakeupFor k j d)) 0 (b .nodes)) refl e
     where
       at : everyNode (λ j d. hasRoom d (wakeupFor k j d)) 0 (b .nodes) ≡ true → (j : ℕ) → j < length (b .nodes)
-        → Change (b .round) (b .round) updated (nodeAt b j) (getD (eachNode (λ j d. enqueue d (wakeupFor k j d)) 0 (b .nodes)) j newNode)
+          → Change (b .round) (b .round) updated (nodeAt b j) (getD (eachNode (λ j d. enqueue d (wakeupFor k j d)) 0 (b .nodes)) j newNode)
       at q j l =
           rw (each-at (λ j d. enqueue d (wakeupFor k j d)) (b .nodes) j l)
           (wakeup-change (b .round) j (nodeAt b j) (every-at (λ j d. hasRoom d (wakeupFor k j d)) (b .nodes) q j l))
+
       go : (o t : Bool) → everyNode (λ j d. hasRoom d (wakeupFor k j d)) 0 (b .nodes) ≡ t
-        → cond o (done b) (cond t (done (withNodes b (eachNode (λ j d. enqueue d (wakeupFor k j d)) 0 (b .nodes)))) (fails queueFull)) ≡ done b′ → Stepped b b′ k updated
+          → cond o (done b) (cond t (done (withNodes b (eachNode (λ j d. enqueue d (wakeupFor k j d)) 0 (b .nodes)))) (fails queueFull)) ≡ done b′ → Stepped b b′ k updated
       go true t q e = subst (λ (y : Bus). Stepped b y k updated) (bus-of e) (same-step still)
       go false false q e = never e
       go false true q e = subst (λ (y : Bus). Stepped b y k updated) (bus-of e) (record {
-          size = length-each (λ j d. enqueue d (wakeupFor k j d)) 0 (b .nodes);
-          bound = λ l. l;
-          own = at q k h;
-          others = λ j l n. at q j l })
+        size = length-each (λ j d. enqueue d (wakeupFor k j d)) 0 (b .nodes);
+        bound = λ l. l;
+        own = at q k h;
+        others = λ j l n. at q j l;
+      })
 
   -- one item of a buffer, and its entry into the register
   pub item-step : (i : Item) {b′ : Bus} → ValidItem i → takeItem k b i ≡ done b′ → Stepped b b′ k (λ x. enterItem x i)
@@ -165,17 +169,21 @@ pub round-step : (b : Bus) (e : Injection) (w : Entry) → Valid b → wrongInje
     → everyNode (λ j d. hasRoom d (owed e w j d)) 0 (b .nodes) ≡ true → b .round < lastRound → Stepped b (afterRound e w b) (w .owner) updated
 unfolding afterRound
 round-step b e w v l q room last = record {
-    size = length-each (settle e w) 0 (b .nodes);
-    bound = λ h. omega arith;
-    own = at (w .owner) (s .attached);
-    others = λ j h n. at j h }
+  size = length-each (settle e w) 0 (b .nodes);
+  bound = λ h. omega arith;
+  own = at (w .owner) (s .attached);
+  others = λ j h n. at j h;
+}
   where
     s : Pending b w
     s = winner-pending b w q
+
     f : ValidFrame (w .frame)
     f = frame-valid 0 (b .round) (w .position) (nodeAt b (w .owner) .pending) (w .frame) (v .each (w .owner) (s .attached) .frames) (s .placed) (s .held)
+
     own : (j : ℕ) → eqb j (w .owner) ≡ true → Own w (nodeAt b j)
     own j e = let o : j ≡ w .owner = eqb-true j (w .owner) e in rw o (record { placed = s .placed; held = s .held })
+
     at : (j : ℕ) → j < length (b .nodes) → Change (b .round) (b .round + 1) updated (nodeAt b j) (getD (eachNode (settle e w) 0 (b .nodes)) j newNode)
     at j h =
         rw (each-at (settle e w) (b .nodes) j h)

@@ -74,7 +74,7 @@ unfolding validRegister
 register-valid {now} {d} {x} v t =
     let a : leb (length (x .opened)) maxOpen ≡ true = le-leb (length (x .opened)) maxOpen (omega (arith, open-length t, few-closings v, v .few)) in
     let b : noneAbove maxExtendedId (x .opened) ≡ true =
-      none-above maxExtendedId (x .opened) (t .counts tooHigh ∙ rw (pending-low 0 now (d .pending) (v .frames), closings-low (itemsOf (d .queue)) (items-valid (d .queue)))) in
+    none-above maxExtendedId (x .opened) (t .counts tooHigh ∙ rw (pending-low 0 now (d .pending) (v .frames), closings-low (itemsOf (d .queue)) (items-valid (d .queue)))) in
     rw (a, b) (go (x .off) (t .shut))
   where
     go : (o : Bool) → (o ≡ true → x .opened ≡ []) → (not o || eqb (length (x .opened)) 0) ≡ true
@@ -98,13 +98,15 @@ unfolding openId
 joined-tally {now} {d} {x} f on few v t =
     let off : x .off ≡ false = t .flag ∙ on in
     let id = idOf (f .op) in
-    let space : leb maxOpen (length (x .opened)) ≡ false = lt-leb maxOpen (length (x .opened)) (omega (arith, open-length t, few-closings v)) in
-    ( withOpened x (x .opened ++ id ∷ [])
-    , rw (off, space)
-    , record {
+    let space : leb maxOpen (length (x .opened)) ≡ false = lt-leb maxOpen (length (x .opened)) (omega (arith, open-length t, few-closings v)) in (
+      withOpened x (x .opened ++ id ∷ []),
+      rw (off, space),
+      record {
         counts = λ p. omega (arith, t .counts p, count-append p (x .opened) (id ∷ []), pending-join p (d .pending) f);
         flag = t .flag;
-        shut = λ e. let z : _≡_ {A = ℕ} 0 1 = cc (e, off) in absurd (omega arith) } )
+        shut = λ e. let z : _≡_ {A = ℕ} 0 1 = cc (e, off) in absurd (omega arith);
+      },
+    )
 
 configured-tally : {d : Node} {x : Register} (kind value : ℕ) → Tally d x → Tally (configure d kind value) x
 unfolding configure
@@ -127,9 +129,10 @@ queued-tally : {d : Node} {x : Register} (fs : List Frame) (bytes ids : List ℕ
     → ((p : ℕ → Bool) → count p (pendingIds (d .pending)) ≡ count p (pendingIds fs) + count p ids)
     → Tally d x → Tally (enqueue (withPending d fs) bytes) x
 queued-tally {d} {x} fs bytes ids w s h t = record {
-    counts = λ p. rw (items-append (d .queue) bytes w, closing-append, s .closing) (omega (arith, t .counts p, h p, count-append p (closings d) ids));
-    flag = t .flag;
-    shut = t .shut }
+  counts = λ p. rw (items-append (d .queue) bytes w, closing-append, s .closing) (omega (arith, t .counts p, h p, count-append p (closings d) ids));
+  flag = t .flag;
+  shut = t .shut;
+}
 
 count-without : (p : ℕ → Bool) (i : ℕ) (fs : List Frame) (f : Frame) → i < length fs → getD fs i f ≡ f
     → count p (pendingIds fs) ≡ count p (idOf (f .op) ∷ []) + count p (pendingIds (without i fs))
@@ -147,8 +150,8 @@ unfolding stay told losers pendingIds count
 round-splits p w j d own = go (eqb j (w .owner)) (drops w j d) own
   where
     go : (u t : Bool) → (u ≡ true → Own w d)
-      → let l = cond u (without (w .position) (d .pending)) (d .pending) in
-      count p (pendingIds (d .pending)) ≡ count p (pendingIds (cond t [] l)) + count p (cond u (winnerId w ∷ []) [] ++ pendingIds (cond t l []))
+        → let l = cond u (without (w .position) (d .pending)) (d .pending) in
+        count p (pendingIds (d .pending)) ≡ count p (pendingIds (cond t [] l)) + count p (cond u (winnerId w ∷ []) [] ++ pendingIds (cond t l []))
     go true true own = count-without p (w .position) (d .pending) (w .frame) (own refl .placed) (own refl .held) ∙ omega arith
     go true false own = count-without p (w .position) (d .pending) (w .frame) (own refl .placed) (own refl .held) ∙ omega arith
     go false true own = omega arith
@@ -172,11 +175,13 @@ read-all (operation op bytes ∷ is) x rest h = go (closes op) h (λ y g. read-a
   where
     id : ℕ
     id = idOf op
+
     Out : Update → Bool → Type 0
     Out u o = (x′ : Register) × (updates readItem is u ≡ updated x′) × ((p : ℕ → Bool) → count p (x′ .opened) ≡ rest p) × (x′ .off ≡ o)
+
     go : (t : Bool) → ((p : ℕ → Bool) → count p (x .opened) ≡ rest p + count p (cond t (id ∷ closingIds is) (closingIds is)))
-      → ((y : Register) → ((p : ℕ → Bool) → count p (y .opened) ≡ rest p + count p (closingIds is)) → Out (updated y) (y .off))
-      → Out (cond t (closeId x id) (updated x)) (x .off)
+        → ((y : Register) → ((p : ℕ → Bool) → count p (y .opened) ≡ rest p + count p (closingIds is)) → Out (updated y) (y .off))
+        → Out (cond t (closeId x id) (updated x)) (x .off)
     go true h r =
         let open′ : isOpen id (x .opened) ≡ true = open-counted id (x .opened) (omega (arith, h (λ y. eqb y id), ap {B = ℕ} (λ t. cond t 1 0) (eq-eqb id id refl))) in
         rw open′ (r (withOpened x (remove id (x .opened))) (λ p. omega (arith, h p, count-remove p id (x .opened) open′)))
@@ -185,14 +190,16 @@ read-all (operation op bytes ∷ is) x rest h = go (closes op) h (λ y g. read-a
 collected-tally : {now : ℕ} {d : Node} {x : Register} → ValidNode now d → Tally d x → Tallied (λ y. read y (d .queue)) (withQueue d []) x
 unfolding read count closingIds
 collected-tally {now} {d} {x} v t =
-    let r = read-all (itemsOf (d .queue)) x (λ p. count p (pendingIds (d .pending))) (t .counts) in
-    ( r .0
-    , rw (register-valid v t) (r .1)
-    , record {
+    let r = read-all (itemsOf (d .queue)) x (λ p. count p (pendingIds (d .pending))) (t .counts) in (
+      r .0,
+      rw (register-valid v t) (r .1),
+      record {
         counts = λ p. rw items-nil (omega (arith, r .2 p));
         flag = r .3 ∙ t .flag;
         shut = λ e. count-none (r .0 .opened)
-          (r .2 (λ y. true) ∙ omega (arith, t .counts (λ y. true), ap (λ l. count (λ y. true) l) (t .shut (sym (r .3) ∙ e)))) } )
+            (r .2 (λ y. true) ∙ omega (arith, t .counts (λ y. true), ap (λ l. count (λ y. true) l) (t .shut (sym (r .3) ∙ e))));
+      },
+    )
 
 -- every change keeps the tally, its register call being done
 pub change-tally : {now later : ℕ} {call : Register → Update} {d d′ : Node} {x : Register} → Change now later call d d′

@@ -66,23 +66,63 @@ status-legal status e = passed _ e 0
 module _ {now : ℕ} {d : Node} (v : ValidNode now d) where
   valid-status : (x : ℕ) → oneOf x statuses ≡ true → (eqb x busOff ≡ true → d .pending ≡ []) → ValidNode now (withStatus d x)
   valid-status x e s = record {
-      status = e; behaviour = v .behaviour; three = v .three; rates = v .rates; room = v .room; few = v .few; silent = s; frames = v .frames }
+    status = e;
+    behaviour = v .behaviour;
+    three = v .three;
+    rates = v .rates;
+    room = v .room;
+    few = v .few;
+    silent = s;
+    frames = v .frames;
+  }
 
   valid-behaviour : (x : ℕ) → oneOf x behaviours ≡ true → ValidNode now (withBehaviour d x)
   valid-behaviour x e = record {
-      status = v .status; behaviour = e; three = v .three; rates = v .rates; room = v .room; few = v .few; silent = v .silent; frames = v .frames }
+    status = v .status;
+    behaviour = e;
+    three = v .three;
+    rates = v .rates;
+    room = v .room;
+    few = v .few;
+    silent = v .silent;
+    frames = v .frames;
+  }
 
   valid-rates : (x : List ℕ) → length x ≡ 3 → NonZero x → ValidNode now (withRates d x)
   valid-rates x l e = record {
-      status = v .status; behaviour = v .behaviour; three = l; rates = e; room = v .room; few = v .few; silent = v .silent; frames = v .frames }
+    status = v .status;
+    behaviour = v .behaviour;
+    three = l;
+    rates = e;
+    room = v .room;
+    few = v .few;
+    silent = v .silent;
+    frames = v .frames;
+  }
 
   valid-pending : (later : ℕ) (x : List Frame) → length x ≤ maxPending → (isOff d ≡ true → x ≡ []) → ValidFrames 0 later x → ValidNode later (withPending d x)
   valid-pending later x l s e = record {
-      status = v .status; behaviour = v .behaviour; three = v .three; rates = v .rates; room = v .room; few = l; silent = s; frames = e }
+    status = v .status;
+    behaviour = v .behaviour;
+    three = v .three;
+    rates = v .rates;
+    room = v .room;
+    few = l;
+    silent = s;
+    frames = e;
+  }
 
   valid-queue : (x : List ℕ) → length x ≤ queueCapacity → ValidNode now (withQueue d x)
   valid-queue x l = record {
-      status = v .status; behaviour = v .behaviour; three = v .three; rates = v .rates; room = l; few = v .few; silent = v .silent; frames = v .frames }
+    status = v .status;
+    behaviour = v .behaviour;
+    three = v .three;
+    rates = v .rates;
+    room = l;
+    few = v .few;
+    silent = v .silent;
+    frames = v .frames;
+  }
 
   valid-enqueue : (x : List ℕ) → length (d .queue) + length x ≤ queueCapacity → ValidNode now (enqueue d x)
   valid-enqueue x l = valid-queue (d .queue ++ x) (rw length-append l)
@@ -94,7 +134,7 @@ unfolding configure
 configured-valid now d kind value l v = go (eqb kind 4) (setting-legal kind value l)
   where
     go : (t : Bool) → cond t (oneOf value behaviours) (leb 1 value) ≡ true
-      → ValidNode now (cond t (withBehaviour d value) (withRates d (set (d .rates) (kind - 1) value)))
+        → ValidNode now (cond t (withBehaviour d value) (withRates d (set (d .rates) (kind - 1) value)))
     go true e = valid-behaviour v value e
     go false e = valid-rates v _ (length-set (d .rates) (kind - 1) value ∙ v .three) (non-zero-set (d .rates) (kind - 1) value (leb-true 1 value e) (v .rates))
 
@@ -119,9 +159,10 @@ stay-valid now d w j v = go (drops w j d) (eqb j (w .owner))
     go : (t u : Bool) → Staying now d (cond t [] (cond u (without (w .position) (d .pending)) (d .pending)))
     go true u = record { few = omega arith; silent = λ q. refl; frames = tt }
     go false true = record {
-        few = omega (arith, length-without (w .position) (d .pending), v .few);
-        silent = λ q. rw (v .silent q);
-        frames = frames-later 0 now (now + 1) (without (w .position) (d .pending)) (omega arith) (frames-without 0 now (w .position) (d .pending) (v .frames)) }
+      few = omega (arith, length-without (w .position) (d .pending), v .few);
+      silent = λ q. rw (v .silent q);
+      frames = frames-later 0 now (now + 1) (without (w .position) (d .pending)) (omega arith) (frames-without 0 now (w .position) (d .pending) (v .frames));
+    }
     go false false = record { few = v .few; silent = v .silent; frames = frames-later 0 now (now + 1) (d .pending) (omega arith) (v .frames) }
 
 -- the frames that are told

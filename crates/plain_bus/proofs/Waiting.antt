@@ -60,9 +60,10 @@ fresh-append now (f ∷ a) b x y = (x .0, fresh-append now a b (x .1) y)
 
 joins-twice : {now : ℕ} {a b c : List Frame} → Joins now a b → Joins now b c → Joins now a c
 joins-twice {now} {a} {b} {c} x y = record {
-    added = x .added ++ y .added;
-    split = y .split ∙ rw (x .split) (append-assoc a (x .added) (y .added));
-    fresh = fresh-append now (x .added) (y .added) (x .fresh) (y .fresh) }
+  added = x .added ++ y .added;
+  split = y .split ∙ rw (x .split) (append-assoc a (x .added) (y .added));
+  fresh = fresh-append now (x .added) (y .added) (x .fresh) (y .fresh);
+}
 
 -- ---- one step of node k's buffer, and all of them; `off`: it turns the node off
 
@@ -77,7 +78,7 @@ module _ (b : Bus) (k : ℕ) (h : k < length (b .nodes)) where
   one-node off d x = record { size = length-set (b .nodes) k d; round = refl; each = λ j l. at j l (eqb j k) refl off x }
     where
       at : (j : ℕ) → j < length (b .nodes) → (t : Bool) → eqb j k ≡ t → (off : Bool) → Joins (b .round) (cond off [] (nodeAt b k .pending)) (d .pending)
-        → Joins (b .round) (cond (off && t) [] (nodeAt b j .pending)) (getD (set (b .nodes) k d) j newNode .pending)
+          → Joins (b .round) (cond (off && t) [] (nodeAt b j .pending)) (getD (set (b .nodes) k d) j newNode .pending)
       at j l true e true x = rw (eqb-true j k e, getD-set-same (b .nodes) k d newNode h) x
       at j l true e false x = rw (eqb-true j k e, getD-set-same (b .nodes) k d newNode h) x
       at j l false e true x = rw (getD-set-other (b .nodes) k j d newNode (eqb-false j k e)) (same-joins (nodeAt b j .pending))
@@ -103,6 +104,7 @@ module _ (b : Bus) (k : ℕ) (h : k < length (b .nodes)) where
     where
       f : Frame
       f = record { op = op; bytes = bytes; accepted = b .round }
+
       go : (o p : Bool) → cond o (done b) (cond p (fails fourPending) (done (withNode b k (accept (nodeAt b k) f)))) ≡ done b′ → Stepping b b′ k false
       go true p e = moved e no-node
       go false true e = never e
@@ -113,7 +115,7 @@ module _ (b : Bus) (k : ℕ) (h : k < length (b .nodes)) where
   configure-pending kind value = one-node false _ (go (eqb kind 4))
     where
       go : (t : Bool) → Joins (b .round) (nodeAt b k .pending)
-        (cond t (withBehaviour (nodeAt b k) value) (withRates (nodeAt b k) (set (nodeAt b k .rates) (kind - 1) value)) .pending)
+          (cond t (withBehaviour (nodeAt b k) value) (withRates (nodeAt b k) (set (nodeAt b k .rates) (kind - 1) value)) .pending)
       go true = same-joins (nodeAt b k .pending)
       go false = same-joins (nodeAt b k .pending)
 
@@ -133,9 +135,10 @@ module _ (b : Bus) (k : ℕ) (h : k < length (b .nodes)) where
       go true t e = moved e no-node
       go false false e = never e
       go false true e = moved e (record {
-          size = length-each (λ j d. enqueue d (wakeupFor k j d)) 0 (b .nodes);
-          round = refl;
-          each = λ j l. rw (each-at (λ j d. enqueue d (wakeupFor k j d)) (b .nodes) j l) (same-joins (nodeAt b j .pending)) })
+        size = length-each (λ j d. enqueue d (wakeupFor k j d)) 0 (b .nodes);
+        round = refl;
+        each = λ j l. rw (each-at (λ j d. enqueue d (wakeupFor k j d)) (b .nodes) j l) (same-joins (nodeAt b j .pending));
+      })
 
   item-pending : (i : Item) {b′ : Bus} → takeItem k b i ≡ done b′ → Stepping b b′ k (turnsOff i)
   unfolding takeItem
@@ -157,12 +160,13 @@ module _ (b : Bus) (k : ℕ) (h : k < length (b .nodes)) where
 
 step-twice : {a b c : Bus} {k : ℕ} (off later : Bool) → Stepping a b k off → Stepping b c k later → Stepping a c k (off || later)
 step-twice {a} {b} {c} {k} off later s t = record {
-    size = t .size ∙ s .size;
-    round = t .round ∙ s .round;
-    each = λ j l. at j (eqb j k) off later (s .each j l) (rw (s .round) at (t .each j (rw (s .size) l))) }
+  size = t .size ∙ s .size;
+  round = t .round ∙ s .round;
+  each = λ j l. at j (eqb j k) off later (s .each j l) (rw (s .round) at (t .each j (rw (s .size) l)));
+}
   where
     at : (j : ℕ) (own off later : Bool) → Joins (a .round) (cond (off && own) [] (nodeAt a j .pending)) (nodeAt b j .pending)
-      → Joins (a .round) (cond (later && own) [] (nodeAt b j .pending)) (nodeAt c j .pending) → Joins (a .round) (cond ((off || later) && own) [] (nodeAt a j .pending)) (nodeAt c j .pending)
+        → Joins (a .round) (cond (later && own) [] (nodeAt b j .pending)) (nodeAt c j .pending) → Joins (a .round) (cond ((off || later) && own) [] (nodeAt a j .pending)) (nodeAt c j .pending)
     at j own true false x y = joins-twice x y
     at j own false false x y = joins-twice x y
     at j true true true x y = y
@@ -176,7 +180,7 @@ items-pending k [] b b′ h e = moved b k h e (no-node b k h)
 items-pending k (i ∷ is) b b′ h e = go (takeItem k b i) refl e (λ c l. items-pending k is c b′ l)
   where
     go : (s : Step) → takeItem k b i ≡ s → takeItems k is s ≡ done b′ → ((c : Bus) → k < length (c .nodes) → takeItems k is (done c) ≡ done b′ → Stepping c b′ k (anyTurnsOff is))
-      → Stepping b b′ k (turnsOff i || anyTurnsOff is)
+        → Stepping b b′ k (turnsOff i || anyTurnsOff is)
     go (fails r) q e f = never (sym (fails-stay k is r) ∙ e)
     go (done c) q e f =
         let s = item-pending b k h i q in
@@ -193,8 +197,9 @@ submit-pending b k buffer e j l = go (attached b k) refl (ltb maxSubmit (length 
   where
     Out : Outcome → Type 0
     Out o = o .answer ≡ accepted → Joins (b .round) (cond (anyTurnsOff (itemsOf buffer) && eqb j k) [] (nodeAt b j .pending)) (nodeAt (o .bus) j .pending)
+
     go : (t : Bool) → attached b k ≡ t → (u : Bool) (s : Step) → takeItems k (itemsOf buffer) (done b) ≡ s
-      → Out (cond (not t) (refuses notAttached b) (cond u (refuses bufferTooLong b) (taken b s)))
+        → Out (cond (not t) (refuses notAttached b) (cond u (refuses bufferTooLong b) (taken b s)))
     go false q u s f = λ e. let z : _≡_ {A = ℕ} 0 1 = cc in absurd (omega arith)
     go true q true s f = λ e. let z : _≡_ {A = ℕ} 0 1 = cc in absurd (omega arith)
     go true q false (fails r) f = λ e. let z : _≡_ {A = ℕ} 0 1 = cc in absurd (omega arith)
@@ -211,9 +216,10 @@ collect-pending b k room j = go (attached b k) refl (ltb room (length (nodeAt b 
         own : (t : Bool) → eqb j k ≡ t → nodeAt (withNode b k (withQueue (nodeAt b k) [])) j .pending ≡ nodeAt b j .pending
         own true e = rw (eqb-true j k e, getD-set-same (b .nodes) k (withQueue (nodeAt b k) []) newNode h)
         own false e = rw (getD-set-other (b .nodes) k j (withQueue (nodeAt b k) []) newNode (eqb-false j k e))
+
     go : (t : Bool) → attached b k ≡ t → (u : Bool)
-      → nodeAt (cond {A = Outcome} (not t) (refuses notAttached b) (cond u (refuses roomTooSmall b) (gives (collected (nodeAt b k .queue)) (withNode b k (withQueue (nodeAt b k) [])))) .bus) j .pending
-      ≡ nodeAt b j .pending
+        → nodeAt (cond {A = Outcome} (not t) (refuses notAttached b) (cond u (refuses roomTooSmall b) (gives (collected (nodeAt b k .queue)) (withNode b k (withQueue (nodeAt b k) [])))) .bus) j .pending
+        ≡ nodeAt b j .pending
     go false q u = refl
     go true q true = refl
     go true q false = emptied (ltb-true k (length (b .nodes)) q)

@@ -34,8 +34,8 @@ fault-moves [] e = let z : _≡_ {A = ℕ} 0 1 = cc front-nil in absurd (omega a
 fault-moves (b ∷ s) e = rw e at (forward (b ∷ s) (omega arith)) .0
 
 module _ (P : List ℕ → Type 0) (none : P [])
-  (faulty : (number n : ℕ) (s : List ℕ) → front s ≡ Fault number n → P (drop n s) → P s)
-  (sound : (op : Operation) (n : ℕ) (s : List ℕ) → front s ≡ Found op n → P (drop n s) → P s) where
+    (faulty : (number n : ℕ) (s : List ℕ) → front s ≡ Fault number n → P (drop n s) → P s)
+    (sound : (op : Operation) (n : ℕ) (s : List ℕ) → front s ≡ Found op n → P (drop n s) → P s) where
   up-to : (k : ℕ) (s : List ℕ) → length s ≤ k → P s
   up-to zero [] h = none
   up-to zero (x ∷ s) h = absurd (omega arith)
@@ -58,10 +58,11 @@ items-nil = unroll [] front-nil
 front-append : {op : Operation} {n : ℕ} (s t : List ℕ) → front s ≡ Found op n
     → (front (s ++ t) ≡ Found op n) × (take n (s ++ t) ≡ take n s) × (drop n (s ++ t) ≡ drop n s ++ t)
 front-append {op} {n} s t e =
-    let h : n ≤ length s = found e .within in
-    ( ap front (ap (λ l. l ++ t) (sym (take-append-drop n s)) ∙ append-assoc (take n s) (drop n s) t) ∙ found-prefix s (drop n s ++ t) e
-    , take-append-le n s t h
-    , drop-append-le n s t h )
+    let h : n ≤ length s = found e .within in (
+      ap front (ap (λ l. l ++ t) (sym (take-append-drop n s)) ∙ append-assoc (take n s) (drop n s) t) ∙ found-prefix s (drop n s ++ t) e,
+      take-append-le n s t h,
+      drop-append-le n s t h,
+    )
 
 no-fault-cut : {P : Type 0} {number n : ℕ} (s : List ℕ) → front s ≡ Fault number n → Whole s → P
 unfolding noFault
@@ -79,11 +80,13 @@ items-append s t = along (λ s. Whole s → itemsOf (s ++ t) ≡ itemsOf s ++ it
   where
     none : Whole [] → itemsOf t ≡ itemsOf [] ++ itemsOf t
     none w = rw items-nil
+
     faulty : (number n : ℕ) (s : List ℕ) → front s ≡ Fault number n → (Whole (drop n s) → itemsOf (drop n s ++ t) ≡ itemsOf (drop n s) ++ itemsOf t)
-      → Whole s → itemsOf (s ++ t) ≡ itemsOf s ++ itemsOf t
+        → Whole s → itemsOf (s ++ t) ≡ itemsOf s ++ itemsOf t
     faulty number n s e r w = no-fault-cut s e w
+
     sound : (op : Operation) (n : ℕ) (s : List ℕ) → front s ≡ Found op n → (Whole (drop n s) → itemsOf (drop n s ++ t) ≡ itemsOf (drop n s) ++ itemsOf t)
-      → Whole s → itemsOf (s ++ t) ≡ itemsOf s ++ itemsOf t
+        → Whole s → itemsOf (s ++ t) ≡ itemsOf s ++ itemsOf t
     sound op n s e r w =
         let f = front-append s t e in
         unroll (s ++ t) (f .0) ∙ rw (f .1, f .2, r (whole-rest s e w), unroll s e)
@@ -138,7 +141,7 @@ closing-append (fault number bytes ∷ is) js = closing-append is js
 closing-append (operation op bytes ∷ is) js = go (closes op) (closing-append is js)
   where
     go : (t : Bool) → closingIds (is ++ js) ≡ closingIds is ++ closingIds js
-      → cond t (idOf op ∷ closingIds (is ++ js)) (closingIds (is ++ js)) ≡ cond t (idOf op ∷ closingIds is) (closingIds is) ++ closingIds js
+        → cond t (idOf op ∷ closingIds (is ++ js)) (closingIds (is ++ js)) ≡ cond t (idOf op ∷ closingIds is) (closingIds is) ++ closingIds js
     go true e = ap (λ l. idOf op ∷ l) e
     go false e = e
 
@@ -162,6 +165,6 @@ closings-short s = along (λ s. 12 * length (closingIds (itemsOf s)) ≤ length 
     (λ op n s e r. rw (unroll s e) (go op n s e (closes op) refl r)) s
   where
     go : (op : Operation) (n : ℕ) (s : List ℕ) → front s ≡ Found op n → (t : Bool) → closes op ≡ t → 12 * length (closingIds (itemsOf (drop n s))) ≤ length (drop n s)
-      → 12 * length (cond t (idOf op ∷ closingIds (itemsOf (drop n s))) (closingIds (itemsOf (drop n s)))) ≤ length s
+        → 12 * length (cond t (idOf op ∷ closingIds (itemsOf (drop n s))) (closingIds (itemsOf (drop n s)))) ≤ length s
     go op n s e true c r = omega (arith, length-drop n s, found e .within, found e .sized, closing-long op c)
     go op n s e false c r = omega (arith, length-drop n s)

@@ -68,6 +68,7 @@ first-of x (y ∷ xs) = go (goesBefore y x) refl (first-of y xs) (first-of x xs)
         up : Among (g .entry) (x ∷ xs) → Among (g .entry) (x ∷ y ∷ xs)
         up (inl q) = inl q
         up (inr a) = inr (inr a)
+
         least : (z : Entry) → Among z (x ∷ y ∷ xs) → goesBefore z (g .entry) ≡ false
         least z (inl q) = g .least z (inl q)
         least z (inr (inl q)) = rw q (not-before-transitive (g .entry) x y (g .least x (inl refl)) e)
@@ -86,11 +87,12 @@ record Held (k i : ℕ) (fs : List Frame) (y : Entry) : Type 0 where
 entries-held : (k i : ℕ) (fs : List Frame) (y : Entry) → Among y (entriesOf k i fs) → Held k i fs y
 unfolding entriesOf
 entries-held k i (f ∷ fs) y (inl e) = record {
-    index = 0;
-    owner = ap (λ (x : Entry). x .owner) e;
-    position = omega (arith, ap (λ (x : Entry). x .position) e);
-    placed = omega arith;
-    held = sym (ap (λ (x : Entry). x .frame) e) }
+  index = 0;
+  owner = ap (λ (x : Entry). x .owner) e;
+  position = omega (arith, ap (λ (x : Entry). x .position) e);
+  placed = omega arith;
+  held = sym (ap (λ (x : Entry). x .frame) e);
+}
 entries-held k i (f ∷ fs) y (inr a) =
     let h : Held k (suc i) fs y = entries-held k (suc i) fs y a in
     record { index = suc (h .index); owner = h .owner; position = omega arith; placed = omega arith; held = h .held }
@@ -101,8 +103,8 @@ held-entries k i [] y h = absurd (omega arith)
 held-entries k i (f ∷ fs) y h = go (h .index) (h .position) (h .placed) (h .held) (held-entries k (suc i) fs y)
   where
     go : (j : ℕ) → y .position ≡ i + j → j < suc (length fs) → getD (f ∷ fs) j (y .frame) ≡ y .frame
-      → (Held k (suc i) fs y → Among y (entriesOf k (suc i) fs))
-      → Among y (record { owner = k; position = i; frame = f } ∷ entriesOf k (suc i) fs)
+        → (Held k (suc i) fs y → Among y (entriesOf k (suc i) fs))
+        → Among y (record { owner = k; position = i; frame = f } ∷ entriesOf k (suc i) fs)
     go zero p l e r = inl (λ t. record { owner = h .owner t; position = at t; frame = sym e t })
       where
         at : y .position ≡ i
@@ -121,15 +123,17 @@ entries-from k (d ∷ ds) y a = go (among-either y (entriesOf k 0 (d .pending)) 
   where
     go : Among y (entriesOf k 0 (d .pending)) ⊎ Among y (entriesFrom (suc k) ds) → (Among y (entriesFrom (suc k) ds) → HeldFrom (suc k) ds y) → HeldFrom k (d ∷ ds) y
     go (inl a) r = record {
-        number = 0;
-        attached = omega arith;
-        here = rw add-zero (entries-held k 0 (d .pending) y a) }
+      number = 0;
+      attached = omega arith;
+      here = rw add-zero (entries-held k 0 (d .pending) y a);
+    }
     go (inr a) r =
         let h : HeldFrom (suc k) ds y = r a in
         record {
           number = suc (h .number);
           attached = omega arith;
-          here = subst (λ (n : ℕ). Held n 0 (getD ds (h .number) newNode .pending) y) (omega arith) (h .here) }
+          here = subst (λ (n : ℕ). Held n 0 (getD ds (h .number) newNode .pending) y) (omega arith) (h .here);
+        }
 
 from-entries : (k : ℕ) (ds : List Node) (y : Entry) → HeldFrom k ds y → Among y (entriesFrom k ds)
 unfolding entriesFrom
@@ -137,7 +141,7 @@ from-entries k [] y h = absurd (omega arith)
 from-entries k (d ∷ ds) y h = go (h .number) (h .attached) (h .here) (from-entries (suc k) ds y)
   where
     go : (n : ℕ) → n < suc (length ds) → Held (k + n) 0 (getD (d ∷ ds) n newNode .pending) y
-      → (HeldFrom (suc k) ds y → Among y (entriesFrom (suc k) ds)) → Among y (entriesOf k 0 (d .pending) ++ entriesFrom (suc k) ds)
+        → (HeldFrom (suc k) ds y → Among y (entriesFrom (suc k) ds)) → Among y (entriesOf k 0 (d .pending) ++ entriesFrom (suc k) ds)
     go zero l e r = among-left y (entriesOf k 0 (d .pending)) (entriesFrom (suc k) ds) (held-entries k 0 (d .pending) y (rw add-zero at e))
     go (suc n) l e r =
         among-right y (entriesOf k 0 (d .pending)) (entriesFrom (suc k) ds)
@@ -148,7 +152,8 @@ pending-entries b y s =
     from-entries 0 (b .nodes) y (record {
       number = y .owner;
       attached = s .attached;
-      here = record { index = y .position; owner = omega arith; position = omega arith; placed = s .placed; held = s .held } })
+      here = record { index = y .position; owner = omega arith; position = omega arith; placed = s .placed; held = s .held };
+    })
 
 entries-pending : (b : Bus) (y : Entry) → Among y (entries b) → Pending b y
 entries-pending b y a =
@@ -158,7 +163,8 @@ entries-pending b y a =
     record {
       attached = rw o at (h .attached);
       placed = subst (λ (n : ℕ). y .position < length (nodeAt b n .pending)) o (rw p at (h .here .placed));
-      held = subst (λ (n : ℕ). getD (nodeAt b n .pending) (y .position) (y .frame) ≡ y .frame) o (rw p at (h .here .held)) }
+      held = subst (λ (n : ℕ). getD (nodeAt b n .pending) (y .position) (y .frame) ≡ y .frame) o (rw p at (h .here .held));
+    }
 
 -- ---- the winner
 
@@ -186,6 +192,7 @@ one-place b x y s t o p = λ i. record { owner = o i; position = p i; frame = sa
     any [] n f g h = absurd (omega arith)
     any (a ∷ l) zero f g h = refl
     any (a ∷ l) (suc n) f g h = any l n f g (omega arith)
+
     same : x .frame ≡ y .frame
     same =
         sym (s .held) ∙ any (nodeAt b (x .owner) .pending) (x .position) (x .frame) (y .frame) (s .placed)
@@ -197,8 +204,10 @@ winner-first b w e y s = go (goesBefore w y) refl
   where
     f : First (wins w) (entries b)
     f = won b w e
+
     least : goesBefore y w ≡ false
     least = let q : w ≡ f .entry = cc (f .first) in rw q (f .least y (pending-entries b y s))
+
     go : (t : Bool) → goesBefore w y ≡ t → (y ≡ w) ⊎ (goesBefore w y ≡ true)
     go true q = inr q
     go false q = let p : SamePlace y w = before-total y w least q in inl (one-place b y w s (winner-pending b w e) (p .owner) (p .position))
