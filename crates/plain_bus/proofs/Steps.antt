@@ -43,6 +43,10 @@ bus-of e = cc
 pub never : {P : Type 0} {r : Refusal} {b : Bus} → fails r ≡ done b → P
 never e = let z : _≡_ {A = ℕ} 0 1 = cc in absurd (omega arith)
 
+-- the bus of a step that is done
+moved : {b b′ b″ : Bus} {k : ℕ} {call : Register → Update} → done b′ ≡ done b″ → Stepped b b′ k call → Stepped b b″ k call
+moved {b} {k = k} {call = call} e s = subst (λ (y : Bus). Stepped b y k call) (bus-of e) s
+
 -- what failed stays failed
 pub fails-stay : (k : ℕ) (is : List Item) (r : Refusal) → takeItems k is (fails r) ≡ fails r
 unfolding takeItems
@@ -74,10 +78,10 @@ module _ (b : Bus) (k : ℕ) (h : k < length (b .nodes)) where
 
       go : (o : Bool) → isOff (nodeAt b k) ≡ o → (p : Bool) → leb maxPending (length (nodeAt b k .pending)) ≡ p
           → cond o (done b) (cond p (fails fourPending) (done (withNode b k (accept (nodeAt b k) f)))) ≡ done b′ → Stepped b b′ k (λ x. openId x (idOf op))
-      go true qo p qp e = subst (λ (y : Bus). Stepped b y k (λ x. openId x (idOf op))) (bus-of e) (same-step (ignored (idOf op) qo))
+      go true qo p qp e = moved e (same-step (ignored (idOf op) qo))
       go false qo true qp e = never e
       go false qo false qp e =
-          subst (λ (y : Bus). Stepped b y k (λ x. openId x (idOf op))) (bus-of e)
+          moved e
           (node-step _ (joined f qo (leb-false maxPending (length (nodeAt b k .pending)) qp) (record { transmit = t; reads = r }) refl))
 
   -- the bytes of a Format Error are more than those that it answers
@@ -94,7 +98,7 @@ module _ (b : Bus) (k : ℕ) (h : k < length (b .nodes)) where
       go false q e = never e
       go true q e =
           let room : length (nodeAt b k .queue) + length (formatError bytes) ≤ queueCapacity = leb-true _ queueCapacity q in
-          subst (λ (y : Bus). Stepped b y k updated) (bus-of e)
+          moved e
           (node-step _ (answered (FormatError (length bytes)) (formatError bytes) (reads-format-error bytes (omega (arith, answer-long bytes))) refl room))
 
   wakeup-change : (now j : ℕ) (d : Node) → hasRoom d (wakeupFor k j d) ≡ true → Change now now updated d (enqueue d (wakeupFor k j d))
@@ -116,9 +120,9 @@ module _ (b : Bus) (k : ℕ) (h : k < length (b .nodes)) where
 
       go : (o t : Bool) → everyNode (λ j d. hasRoom d (wakeupFor k j d)) 0 (b .nodes) ≡ t
           → cond o (done b) (cond t (done (withNodes b (eachNode (λ j d. enqueue d (wakeupFor k j d)) 0 (b .nodes)))) (fails queueFull)) ≡ done b′ → Stepped b b′ k updated
-      go true t q e = subst (λ (y : Bus). Stepped b y k updated) (bus-of e) (same-step still)
+      go true t q e = moved e (same-step still)
       go false false q e = never e
-      go false true q e = subst (λ (y : Bus). Stepped b y k updated) (bus-of e) (record {
+      go false true q e = moved e (record {
         size = length-each (λ j d. enqueue d (wakeupFor k j d)) 0 (b .nodes);
         bound = λ l. l;
         own = at q k h;
@@ -128,7 +132,7 @@ module _ (b : Bus) (k : ℕ) (h : k < length (b .nodes)) where
   -- one item of a buffer, and its entry into the register
   pub item-step : (i : Item) {b′ : Bus} → ValidItem i → takeItem k b i ≡ done b′ → Stepped b b′ k (λ x. enterItem x i)
   unfolding takeItem enterItem
-  item-step (operation (FormatError n) bytes) v e = subst (λ (y : Bus). Stepped b y k updated) (bus-of e) (same-step still)
+  item-step (operation (FormatError n) bytes) v e = moved e (same-step still)
   item-step (operation (CanTransmit id ide rtr dl) bytes) v e = transmit-step (CanTransmit id ide rtr dl) bytes refl v e
   item-step (operation (FdTransmit id ide brs esi dl) bytes) v e = transmit-step (FdTransmit id ide brs esi dl) bytes refl v e
   item-step (operation (XlTransmit id ide sec sdt vcid af dl) bytes) v e = transmit-step (XlTransmit id ide sec sdt vcid af dl) bytes refl v e
@@ -136,13 +140,13 @@ module _ (b : Bus) (k : ℕ) (h : k < length (b .nodes)) where
   item-step (operation (ArbitrationLost id) bytes) v e = answer-step bytes e
   item-step (operation (BusError id code flag sender) bytes) v e = answer-step bytes e
   item-step (operation (Configuration kind value) bytes) v e =
-      subst (λ (y : Bus). Stepped b y k updated) (bus-of e) (node-step _ (configured kind value (found v .lawful)))
-  item-step (operation (Status status) bytes) v e = subst (λ (y : Bus). Stepped b y k _) (bus-of e) (node-step _ (statusSet status (found v .lawful)))
+      moved e (node-step _ (configured kind value (found v .lawful)))
+  item-step (operation (Status status) bytes) v e = moved e (node-step _ (statusSet status (found v .lawful)))
   item-step (operation Wakeup bytes) v e = wakeup-step e
   item-step (fault number bytes) v e = go (unanswered bytes) e
     where
       go : {b′ : Bus} (t : Bool) → cond t (done b) (answerFormatError b k bytes) ≡ done b′ → Stepped b b′ k updated
-      go true e = subst (λ (y : Bus). Stepped b y k updated) (bus-of e) (same-step still)
+      go true e = moved e (same-step still)
       go false e = answer-step bytes e
 
   -- a collect, and its reading into the register
