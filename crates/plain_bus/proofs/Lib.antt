@@ -1,3 +1,4 @@
+pub mod Examples
 pub mod Codec
 pub mod Whole
 pub mod Counts

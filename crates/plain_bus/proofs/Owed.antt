@@ -17,7 +17,7 @@ use Rattle.decoder.proofs.Found.{found}
 use Rattle.plain_bus.specs.Kinds.{isTransmit, idOf, closes}
 use Rattle.plain_bus.specs.Held.{Frame, Node, isOff}
 use Rattle.plain_bus.specs.Order.{Entry}
-use Rattle.plain_bus.specs.Round.{Injection, noError, injected, primaryErrorFlag, secondaryErrorFlag, winnerId, newsFor, losers, lostNotices, told, owed}
+use Rattle.plain_bus.specs.Round.{Injection, noError, injected, primaryErrorFlag, secondaryErrorFlag, winnerId, errorFor, newsFor, losers, lostNotices, told, owed}
 use Rattle.plain_bus.specs.Valid.{ReadsAs, ValidFrame, ValidFrames, Whole}
 use Rattle.plain_bus.specs.Session.{closingIds, pendingIds}
 use Rattle.plain_bus.proofs.Codec.{reads-confirm, reads-lost, reads-bus-error}
@@ -106,11 +106,11 @@ says-news noError w j d l v on = go (eqb j (w .owner)) (isOff d)
     go false false = rw (transmit-quiet (w .frame .op) (v .transmit)) at (says-one (v .reads))
 says-news (injected code detector) w j d l v on = go (eqb j (w .owner)) (isOff d) (eqb j detector) on
   where
-    error : (own first : Bool) → Says (encode (BusError (winnerId w) code (cond first primaryErrorFlag secondaryErrorFlag) (cond own 1 0)) []) (cond (eqb (cond own 1 0) 1) (winnerId w ∷ []) [])
+    error : (own first : Bool) → Says (encode (errorFor w code first own) []) (cond (closes (errorFor w code first own)) (winnerId w ∷ []) [])
     error own first = says-one (reads-bus-error (winnerId w) code _ _ (error-legal (winnerId w) code first own (read-id (w .frame .bytes) (v .reads)) l))
 
     go : (own off first : Bool) → (own ≡ true → off ≡ false)
-        → Says (cond off [] (encode (BusError (winnerId w) code (cond first primaryErrorFlag secondaryErrorFlag) (cond own 1 0)) [])) (cond own (winnerId w ∷ []) [])
+        → Says (cond off [] (encode (errorFor w code first own) [])) (cond own (winnerId w ∷ []) [])
     go true true first on = let z : _≡_ {A = ℕ} 0 1 = cc (on refl) in absurd (omega arith)
     go false true first on = says-nil
     go true false first on = error true first

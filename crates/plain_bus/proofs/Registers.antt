@@ -16,7 +16,7 @@ use Rattle.decoder.specs.Stream.{Item, operation, fault, itemsOf}
 use Rattle.plain_bus.specs.Kinds.{idOf, closes}
 use Rattle.plain_bus.specs.Held.{maxPending, queueCapacity, busOff}
 use Rattle.plain_bus.specs.Refusal.{Refusal, invalid, registerFull, registerDiffers}
-use Rattle.plain_bus.specs.Register.{Register, maxOpen, withOpened, newRegister, noneAbove, validRegister, Update, updated, rejected, updates, openId, noteStatus, enterItem, enter, isOpen, remove, closeId, readItem, read}
+use Rattle.plain_bus.specs.Register.{Register, maxOpen, withOpened, newRegister, noneAbove, validRegister, Update, updated, rejected, updates, openId, withOff, noteStatus, enterItem, enter, isOpen, remove, closeId, readItem, read}
 use Rattle.plain_bus.proofs.Whole.{ValidItem, ValidItems, items-valid}
 use Rattle.plain_bus.proofs.Owed.{read-id}
 
@@ -108,10 +108,10 @@ open-fits r id h f = go (r .off) refl (leb maxOpen (length (r .opened))) refl
     }
 
 status-fits : (r : Register) (status : ℕ) → Fits r → Fits (noteStatus r status)
-unfolding noteStatus noneAbove
+unfolding noteStatus withOff noneAbove
 status-fits r status f = go (eqb status busOff)
   where
-    go : (t : Bool) → Fits (record { opened = cond t [] (r .opened); off = t })
+    go : (t : Bool) → Fits (withOff r t)
     go true = record { few = omega arith; low = refl; shut = λ o. refl }
     go false = record { few = f .few; low = f .low; shut = λ o. false-is-true o }
 

@@ -19,7 +19,7 @@ use Rattle.plain_bus.specs.Submit.{accept, cleared, configure, setStatus
 use Rattle.plain_bus.specs.Order.{Entry}
 use Rattle.plain_bus.specs.Round.{Injection, winnerId, without, losers, drops, told, stay, owed, settle}
 use Rattle.plain_bus.specs.Valid.{ReadsAs, ValidFrame, ValidFrames, ValidNode, Whole}
-use Rattle.plain_bus.specs.Register.{Register, maxOpen, withOpened, noneAbove, validRegister, Update, updated, rejected, updates, openId, noteStatus, isOpen, remove, closeId, readItem, read}
+use Rattle.plain_bus.specs.Register.{Register, maxOpen, withOpened, noneAbove, validRegister, Update, updated, rejected, updates, openId, withOff, noteStatus, isOpen, remove, closeId, readItem, read}
 use Rattle.plain_bus.specs.Session.{count, times, pendingIds, closingIds}
 use Rattle.plain_bus.proofs.Counts.{count-append, count-all, count-none, count-remove, open-counted, none-above}
 use Rattle.plain_bus.proofs.Whole.{ValidItem, ValidItems, items-nil, items-append, items-valid, whole-append, whole-nil, closing-append, closings-short}
@@ -117,10 +117,10 @@ configured-tally {d} {x} kind value t = go (eqb kind 4)
     go false = record { counts = t .counts; flag = t .flag; shut = t .shut }
 
 status-tally : {d : Node} {x : Register} (status : ℕ) → Tally d x → Tally (setStatus d status) (noteStatus x status)
-unfolding setStatus noteStatus count pendingIds closingIds
+unfolding setStatus noteStatus withOff count pendingIds closingIds
 status-tally {d} {x} status t = go (eqb status busOff) refl
   where
-    go : (b : Bool) → eqb status busOff ≡ b → Tally (withStatus (cond b (cleared d) d) status) (record { opened = cond b [] (x .opened); off = b })
+    go : (b : Bool) → eqb status busOff ≡ b → Tally (withStatus (cond b (cleared d) d) status) (withOff x b)
     go true e = record { counts = λ p. rw items-nil; flag = sym e; shut = λ q. refl }
     go false e = record { counts = t .counts; flag = sym e; shut = λ q. let z : _≡_ {A = ℕ} 0 1 = cc in absurd (omega arith) }
 

@@ -138,12 +138,24 @@ configured-valid now d kind value l v = go (eqb kind 4) (setting-legal kind valu
     go true e = valid-behaviour v value e
     go false e = valid-rates v _ (length-set (d .rates) (kind - 1) value ∙ v .three) (non-zero-set (d .rates) (kind - 1) value (leb-true 1 value e) (v .rates))
 
+cleared-valid : {now : ℕ} {d : Node} → ValidNode now d → ValidNode now (cleared d)
+cleared-valid v = record {
+  status = v .status;
+  behaviour = v .behaviour;
+  three = v .three;
+  rates = v .rates;
+  room = omega (arith, v .room);
+  few = omega arith;
+  silent = λ q. refl;
+  frames = tt;
+}
+
 status-valid : (now : ℕ) (d : Node) (status : ℕ) → legal (Status status) ≡ true → ValidNode now d → ValidNode now (setStatus d status)
 unfolding setStatus
 status-valid now d status l v = go (eqb status busOff) refl
   where
     go : (t : Bool) → eqb status busOff ≡ t → ValidNode now (withStatus (cond t (cleared d) d) status)
-    go true e = valid-status (valid-queue (valid-pending v now [] (omega arith) (λ q. refl) tt) [] (omega arith)) status (status-legal status l) (λ q. refl)
+    go true e = valid-status (cleared-valid v) status (status-legal status l) (λ q. refl)
     go false e = valid-status v status (status-legal status l) (λ q. let z : _≡_ {A = ℕ} 0 1 = cc in absurd (omega arith))
 
 -- the frames that stay pending after a round

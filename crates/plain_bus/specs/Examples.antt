@@ -1,161 +1,155 @@
--- W1 to W10 as one table, and one statement about the definitions (01, "Sessions to check by hand").
+-- W1 to W10 as one table, and the statement about it (01, "Sessions to check by hand").
 -- Assumes nothing.
 use Prim.Native.Nat.{ℕ}
-use mathlib.Core.Path.{_≡_, refl}
+use mathlib.Core.Path.{_≡_}
 use mathlib.Core.List.{List, [], _∷_, _++_}
-use mathlib.Core.Bool.{Bool, true, false, cond}
+use mathlib.Core.Bool.{Bool, true, false}
 use lib.ListN.{length}
-use Rattle.operation.specs.Format.{header, encode}
-use Rattle.operation.specs.Rules.{allAfter, oneOf, fdLength, rules, legal}
+use Rattle.operation.specs.Format.{encode}
+use Rattle.operation.specs.Rules.{legal}
 use Rattle.operation.specs.declared.Operation.{Operation}
-use Rattle.operation.specs.declared.Operation.the-variants.{CanTransmit, FdTransmit, XlTransmit, Confirm, ArbitrationLost}
-use Rattle.decoder.specs.Front.{shapeOf, verdict, judge, decode, front}
-use Rattle.decoder.specs.Stream.{itemsUpTo, itemsOf}
+use Rattle.operation.specs.declared.Operation.the-variants.{CanTransmit, FdTransmit, XlTransmit, Confirm, ArbitrationLost, Configuration}
+use Rattle.decoder.specs.Front.{front}
 use Rattle.decoder.specs.declared.Front.{Front}
-use Rattle.decoder.specs.declared.Front.the-variants.{End, Fault, Found}
-use Rattle.plain_bus.specs.Held
+use Rattle.decoder.specs.declared.Front.the-variants.{Fault}
 use Rattle.plain_bus.specs.Held.{Node, Bus}
-use Rattle.plain_bus.specs.Refusal.{numberOf}
-use Rattle.plain_bus.specs.Submit
+use Rattle.plain_bus.specs.Refusal.{Refusal, fourPending}
 use Rattle.plain_bus.specs.Submit.{Step, done, fails}
-use Rattle.plain_bus.specs.Order
-use Rattle.plain_bus.specs.Round
 use Rattle.plain_bus.specs.Round.{noError}
-use Rattle.plain_bus.specs.Calls
-use Rattle.plain_bus.specs.Calls.{Answer, refused, accepted, idle, carried, collected, start}
-use Rattle.plain_bus.specs.Session.{Call, submission, round, call, calls, answers}
+use Rattle.plain_bus.specs.Calls.{Answer, refused, accepted, carried, start}
+use Rattle.plain_bus.specs.Register.{Register}
+use Rattle.plain_bus.specs.Session.{Call, submission, round, calls, answers, World, opening, run}
 
--- what a line asks: the bytes of an operation; whether an operation is legal; the fault at the front of some bytes;
--- a session of so many nodes
+-- what a line asks: the bytes of an operation; whether it meets the content rules; what stands at the front of some bytes;
+-- how a session of so many nodes ends; what the registers have open after it
 pub data Question : Type 0 where
   written : Operation → List ℕ → Question
   isLegal : Operation → Question
-  faultOf : List ℕ → Question
+  frontOf : List ℕ → Question
   session : ℕ → List Call → Question
+  registered : ℕ → List Call → Question
 
--- every answer is a list of lists of numbers: of a call, its number and what it names; of a session, each call's answer,
--- how many frames are pending at each node, and each queue
-answerNumbers : Answer → List ℕ
-answerNumbers (refused r) = numberOf r ∷ []
-answerNumbers accepted = 0 ∷ []
-answerNumbers idle = 0 ∷ []
-answerNumbers (carried sender id errored age) = 0 ∷ sender ∷ id ∷ cond errored 1 0 ∷ age ∷ []
-answerNumbers (collected bytes) = 0 ∷ bytes
+-- of a session: the calls' answers, then for each node how many frames are pending, and its queue
+pub data Reply : Type 0 where
+  bytes : List ℕ → Reply
+  truth : Bool → Reply
+  stands : Front → Reply
+  ends : List Answer → List ℕ → List (List ℕ) → Reply
+  opens : Bool → List (List ℕ) → Reply
+  notStarted : Refusal → Reply
 
-allNumbers : List Answer → List (List ℕ)
-allNumbers [] = []
-allNumbers (a ∷ as′) = answerNumbers a ∷ allNumbers as′
-
-pendingCounts : List Node → List ℕ
+unfoldable pub pendingCounts : List Node → List ℕ
 pendingCounts [] = []
 pendingCounts (d ∷ ds) = length (d .pending) ∷ pendingCounts ds
 
-queues : List Node → List (List ℕ)
+unfoldable pub queues : List Node → List (List ℕ)
 queues [] = []
 queues (d ∷ ds) = d .queue ∷ queues ds
 
-played : List Call → Step → List (List ℕ)
-played cs (fails r) = (numberOf r ∷ []) ∷ []
-played cs (done b) = allNumbers (answers cs b) ++ pendingCounts (calls cs b .nodes) ∷ queues (calls cs b .nodes)
+unfoldable pub openIds : List Register → List (List ℕ)
+openIds [] = []
+openIds (r ∷ rs) = r .opened ∷ openIds rs
 
-faultNumber : Front → ℕ
-faultNumber End = 0
-faultNumber (Fault number n) = number
-faultNumber (Found op n) = 0
+abbrev pub atEnd : List Answer → Bus → Reply
+atEnd given b = ends given (pendingCounts (b .nodes)) (queues (b .nodes))
 
-answerTo : Question → List (List ℕ)
-answerTo (written op payload) = encode op payload ∷ []
-answerTo (isLegal op) = (cond (legal op) 1 0 ∷ []) ∷ []
-answerTo (faultOf bytes) = (faultNumber (front bytes) ∷ []) ∷ []
-answerTo (session n cs) = played cs (start n)
+abbrev pub inWorld : World → Reply
+inWorld w = opens (w .registers .allDone) (openIds (w .registers .each))
+
+unfoldable pub played : List Call → Step → Reply
+played cs (fails r) = notStarted r
+played cs (done b) = atEnd (answers cs b) (calls cs b)
+
+unfoldable pub kept : List Call → Step → Reply
+kept cs (fails r) = notStarted r
+kept cs (done b) = inWorld (run cs (opening b))
+
+unfoldable pub reply : Question → Reply
+reply (written op payload) = bytes (encode op payload)
+reply (isLegal op) = truth (legal op)
+reply (frontOf s) = stands (front s)
+reply (session n cs) = played cs (start n)
+reply (registered n cs) = kept cs (start n)
+
+-- ---- a table of questions, each with the reply that is expected
+
+pub record Line : Type 0 where
+  pub asks : Question
+  pub expects : Reply
+
+abbrev pub _gives_ : Question → Reply → Line
+_gives_ q a = record { asks = q; expects = a }
+
+infix 70 _gives_
+unfoldable pub computed : List Line → List Reply
+computed [] = []
+computed (l ∷ ls) = reply (l .asks) ∷ computed ls
+
+unfoldable pub expected : List Line → List Reply
+expected [] = []
+expected (l ∷ ls) = l .expects ∷ expected ls
 
 -- ---- the bytes that 01 prints
 
-w1 : List ℕ
+abbrev pub w1 : List ℕ
 w1 = 0x10 ∷ 0 ∷ 0 ∷ 0 ∷ 0x12 ∷ 0 ∷ 0 ∷ 0 ∷ 0x0F ∷ 0 ∷ 0 ∷ 0 ∷ 0 ∷ 0 ∷ 2 ∷ 0 ∷ 0xAA ∷ 0xBB ∷ []
 
-w2 : List ℕ
+abbrev pub w2 : List ℕ
 w2 = 0x20 ∷ 0 ∷ 0 ∷ 0 ∷ 0x0C ∷ 0 ∷ 0 ∷ 0 ∷ 0x0F ∷ 0 ∷ 0 ∷ 0 ∷ []
 
-w3 : List ℕ
+abbrev pub w3 : List ℕ
 w3 = 0x30 ∷ 0 ∷ 0 ∷ 0 ∷ 0x0C ∷ 0 ∷ 0 ∷ 0 ∷ 0x10 ∷ 0 ∷ 0 ∷ 0 ∷ []
 
-w4 : List ℕ
+abbrev pub w4 : List ℕ
 w4 = 1 ∷ 0 ∷ 0 ∷ 0 ∷ 0x0D ∷ 0 ∷ 0 ∷ 0 ∷ 3 ∷ 0 ∷ 1 ∷ 2 ∷ 3 ∷ []
 
-confirm16 : List ℕ
+abbrev pub confirm16 : List ℕ
 confirm16 = 0x20 ∷ 0 ∷ 0 ∷ 0 ∷ 0x0C ∷ 0 ∷ 0 ∷ 0 ∷ 0x10 ∷ 0 ∷ 0 ∷ 0 ∷ []
 
-transmit16 : List ℕ
+abbrev pub transmit16 : List ℕ
 transmit16 = 0x10 ∷ 0 ∷ 0 ∷ 0 ∷ 0x10 ∷ 0 ∷ 0 ∷ 0 ∷ 0x10 ∷ 0 ∷ 0 ∷ 0 ∷ 0 ∷ 0 ∷ 0 ∷ 0 ∷ []
 
--- Configuration of kind 4 with 2, DISCARD_AND_NOTIFY
-discard : List ℕ
-discard = 0x40 ∷ 0 ∷ 0 ∷ 0 ∷ 10 ∷ 0 ∷ 0 ∷ 0 ∷ 4 ∷ 2 ∷ []
-
--- twelve bytes with a length field
-twelve : ℕ → List ℕ
+-- twelve bytes with the length field n
+abbrev pub twelve : ℕ → List ℕ
 twelve n = 0x20 ∷ 0 ∷ 0 ∷ 0 ∷ n ∷ 0 ∷ 0 ∷ 0 ∷ 1 ∷ 0 ∷ 0 ∷ 0 ∷ []
 
--- ---- the table
+-- Configuration that sets the node to DISCARD_AND_NOTIFY
+abbrev pub discarding : List ℕ
+discarding = encode (Configuration 4 2) []
 
-record Line : Type 0 where
-  question : Question
-  answer : List (List ℕ)
+-- ---- W1 to W10
 
-abbrev is : Question → List (List ℕ) → Line
-is q a = record { question = q; answer = a }
-
-ok : List ℕ
-ok = 0 ∷ []
-
-yes′ : List (List ℕ)
-yes′ = (1 ∷ []) ∷ []
-
-no′ : List (List ℕ)
-no′ = (0 ∷ []) ∷ []
-
-fiveTransmits : List ℕ
-fiveTransmits = transmit16 ++ transmit16 ++ transmit16 ++ transmit16 ++ transmit16
-
-table : List Line
+unfoldable pub table : List Line
 table =
-    is (written (CanTransmit 15 0 0 2) (0xAA ∷ 0xBB ∷ [])) (w1 ∷ [])
-    ∷ is (written (Confirm 15) []) (w2 ∷ [])
-    ∷ is (written (ArbitrationLost 16) []) (w3 ∷ [])
-    ∷ is (session 2 (submission 0 (1 ∷ 2 ∷ 3 ∷ []) ∷ [])) (ok ∷ (0 ∷ 0 ∷ []) ∷ w4 ∷ [] ∷ [])
-    ∷ is (session 3 (submission 0 w1 ∷ submission 1 (discard ++ transmit16) ∷ round noError ∷ []))
-    (ok ∷ ok ∷ (0 ∷ 0 ∷ 15 ∷ 0 ∷ 0 ∷ []) ∷ (0 ∷ 0 ∷ 0 ∷ []) ∷ w2 ∷ (w1 ++ w3) ∷ w1 ∷ [])
-    ∷ is (session 3 (submission 0 w1 ∷ submission 1 transmit16 ∷ round noError ∷ []))
-    (ok ∷ ok ∷ (0 ∷ 0 ∷ 15 ∷ 0 ∷ 0 ∷ []) ∷ (0 ∷ 1 ∷ 0 ∷ []) ∷ w2 ∷ w1 ∷ w1 ∷ [])
-    ∷ is (session 3 (submission 0 w1 ∷ submission 1 transmit16 ∷ round noError ∷ round noError ∷ []))
-    (ok ∷ ok ∷ (0 ∷ 0 ∷ 15 ∷ 0 ∷ 0 ∷ []) ∷ (0 ∷ 1 ∷ 16 ∷ 0 ∷ 1 ∷ []) ∷ (0 ∷ 0 ∷ 0 ∷ [])
-    ∷ (w2 ++ transmit16) ∷ (w1 ++ confirm16) ∷ (w1 ++ transmit16) ∷ [])
-    ∷ is (session 2 (submission 0 fiveTransmits ∷ [])) ((8 ∷ []) ∷ (0 ∷ 0 ∷ []) ∷ [] ∷ [] ∷ [])
-    ∷ is (isLegal (CanTransmit 2_047 0 0 0)) yes′
-    ∷ is (isLegal (CanTransmit 2_048 0 0 0)) no′
-    ∷ is (isLegal (FdTransmit 536_870_911 1 0 0 0)) yes′
-    ∷ is (isLegal (XlTransmit 536_870_912 1 0 0 0 0 1)) no′
-    ∷ is (isLegal (CanTransmit 1 0 0 8)) yes′
-    ∷ is (isLegal (CanTransmit 1 0 0 9)) no′
-    ∷ is (isLegal (FdTransmit 1 0 0 0 9)) no′
-    ∷ is (isLegal (FdTransmit 1 0 0 0 12)) yes′
-    ∷ is (isLegal (FdTransmit 1 0 0 0 64)) yes′
-    ∷ is (isLegal (XlTransmit 1 0 0 0 0 0 0)) no′
-    ∷ is (isLegal (XlTransmit 1 0 0 0 0 0 2_049)) no′
-    ∷ is (isLegal (XlTransmit 1 0 0 0 0 0 2_048)) yes′
-    ∷ is (faultOf (twelve 7)) ((2 ∷ []) ∷ [])
-    ∷ is (faultOf (twelve 13)) ((2 ∷ []) ∷ [])
+    written (CanTransmit 15 0 0 2) (0xAA ∷ 0xBB ∷ []) gives bytes w1
+    ∷ written (Confirm 15) [] gives bytes w2
+    ∷ written (ArbitrationLost 16) [] gives bytes w3
+    ∷ session 2 (submission 0 (1 ∷ 2 ∷ 3 ∷ []) ∷ []) gives ends (accepted ∷ []) (0 ∷ 0 ∷ []) (w4 ∷ [] ∷ [])
+    ∷ session 3 (submission 0 w1 ∷ submission 1 (discarding ++ transmit16) ∷ round noError ∷ [])
+    gives ends (accepted ∷ accepted ∷ carried 0 15 false 0 ∷ []) (0 ∷ 0 ∷ 0 ∷ []) (w2 ∷ (w1 ++ w3) ∷ w1 ∷ [])
+    ∷ session 3 (submission 0 w1 ∷ submission 1 transmit16 ∷ round noError ∷ [])
+    gives ends (accepted ∷ accepted ∷ carried 0 15 false 0 ∷ []) (0 ∷ 1 ∷ 0 ∷ []) (w2 ∷ w1 ∷ w1 ∷ [])
+    ∷ session 3 (submission 0 w1 ∷ submission 1 transmit16 ∷ round noError ∷ round noError ∷ [])
+    gives ends (accepted ∷ accepted ∷ carried 0 15 false 0 ∷ carried 1 16 false 1 ∷ []) (0 ∷ 0 ∷ 0 ∷ [])
+    ((w2 ++ transmit16) ∷ (w1 ++ confirm16) ∷ (w1 ++ transmit16) ∷ [])
+    ∷ session 2 (submission 0 (transmit16 ++ transmit16 ++ transmit16 ++ transmit16 ++ transmit16) ∷ [])
+    gives ends (refused fourPending ∷ []) (0 ∷ 0 ∷ []) ([] ∷ [] ∷ [])
+    ∷ isLegal (CanTransmit 2_047 0 0 0) gives truth true
+    ∷ isLegal (CanTransmit 2_048 0 0 0) gives truth false
+    ∷ isLegal (FdTransmit 536_870_911 1 0 0 0) gives truth true
+    ∷ isLegal (XlTransmit 536_870_912 1 0 0 0 0 1) gives truth false
+    ∷ isLegal (CanTransmit 1 0 0 8) gives truth true
+    ∷ isLegal (CanTransmit 1 0 0 9) gives truth false
+    ∷ isLegal (FdTransmit 1 0 0 0 9) gives truth false
+    ∷ isLegal (FdTransmit 1 0 0 0 12) gives truth true
+    ∷ isLegal (FdTransmit 1 0 0 0 64) gives truth true
+    ∷ isLegal (XlTransmit 1 0 0 0 0 0 0) gives truth false
+    ∷ isLegal (XlTransmit 1 0 0 0 0 0 2_049) gives truth false
+    ∷ isLegal (XlTransmit 1 0 0 0 0 0 2_048) gives truth true
+    ∷ frontOf (twelve 7) gives stands (Fault 2 12)
+    ∷ frontOf (twelve 13) gives stands (Fault 2 12)
     ∷ []
 
-computed : List Line → List (List (List ℕ))
-computed [] = []
-computed (l ∷ ls) = answerTo (l .question) ∷ computed ls
-
-printed : List Line → List (List (List ℕ))
-printed [] = []
-printed (l ∷ ls) = l .answer ∷ printed ls
-
-w1-to-w10 : computed table ≡ printed table
-unfolding computed printed table answerTo played allNumbers answerNumbers pendingCounts queues faultNumber w1 w2 w3 w4 confirm16 transmit16 discard twelve ok yes′ no′ fiveTransmits header encode allAfter oneOf fdLength rules legal shapeOf verdict judge decode front itemsUpTo itemsOf Held.eachNode Held.everyNode Submit.takeTransmit Submit.configure Submit.setStatus Submit.takeWakeup Submit.answerFormatError Submit.takeItem Submit.takeItems Order.rank Order.goesBefore Order.entriesOf Order.entriesFrom Order.better Order.firstOf Order.winner Round.newsFor Round.without Round.losers Round.lostNotices Round.drops Round.told Round.stay Round.owed Round.settle Round.afterRound Round.age Calls.start Calls.submit Calls.wrongInjection Calls.arbitrate Calls.runRound Calls.collect call calls answers
-w1-to-w10 = refl
+-- the one statement: the definitions compute what 01 prints
+abbrev pub W1toW10 : Type 0
+W1toW10 = computed table ≡ expected table

@@ -9,3 +9,4 @@ pub mod Valid
 pub mod Register
 pub mod Session
 pub mod Examples
+pub mod Cases

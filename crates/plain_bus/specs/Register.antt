@@ -65,8 +65,12 @@ openId r id =
     (cond (leb maxOpen (length (r .opened))) (rejected registerFull) (updated (withOpened r (r .opened ++ id ∷ []))))
 
 -- a Status sets whether the node is Bus-Off, and Status Bus-Off empties the list
+unfoldable pub withOff : Register → Bool → Register
+withOff r true = record { opened = []; off = true }
+withOff r false = record { opened = r .opened; off = false }
+
 unfoldable pub noteStatus : Register → ℕ → Register
-noteStatus r status = record { opened = cond (eqb status busOff) [] (r .opened); off = eqb status busOff }
+noteStatus r status = withOff r (eqb status busOff)
 
 unfoldable pub enterItem : Register → Item → Update
 enterItem r (operation (FormatError n) bytes) = updated r

@@ -29,17 +29,18 @@ secondaryErrorFlag = 2
 abbrev pub winnerId : Entry → ℕ
 winnerId w = idOf (w .frame .op)
 
--- what node j gets for the winner w: without an error the Transmit as submitted, and the sender Confirm;
--- with an error Bus Error instead; nothing at a Bus-Off node
+-- Bus Error for the winner: at the detecting node with the primary flag, and at the sender with Is Sender 1
+abbrev pub errorFor : Entry → ℕ → Bool → Bool → Operation
+errorFor w code detects sends =
+    BusError (winnerId w) code (cond detects primaryErrorFlag secondaryErrorFlag) (cond sends 1 0)
+
+-- what node j gets for the winner w: without an error the Transmit as submitted, and the sender Confirm; with an error all
+-- Bus Error instead; a Bus-Off node nothing
 unfoldable pub newsFor : Injection → Entry → ℕ → Node → List ℕ
 newsFor noError w j d =
     cond (eqb j (w .owner)) (encode (Confirm (winnerId w)) []) (cond (isOff d) [] (w .frame .bytes))
 newsFor (injected code detector) w j d =
-    cond (isOff d) []
-    (encode
-    (BusError (winnerId w) code (cond (eqb j detector) primaryErrorFlag secondaryErrorFlag)
-    (cond (eqb j (w .owner)) 1 0))
-    [])
+    cond (isOff d) [] (encode (errorFor w code (eqb j detector) (eqb j (w .owner))) [])
 
 -- a list without its element at a position
 unfoldable pub without : ℕ → List Frame → List Frame
