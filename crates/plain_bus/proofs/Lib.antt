@@ -1,4 +1,4 @@
-pub mod Examples
+pub mod Computed
 pub mod Codec
 pub mod Whole
 pub mod Counts

@@ -32,9 +32,6 @@ off = encode (Status 3) []
 abbrev pub wakeup : List ℕ
 wakeup = encode Wakeup []
 
-abbrev pub zeros : ℕ → List ℕ
-zeros n = replicate n 0
-
 unfoldable pub cases : List Line
 cases =
     -- a Bus-Off node's own faults are answered, its Transmits and Wakeups have no effect, and five of them are no 8
@@ -70,10 +67,6 @@ cases =
     -- the first failing step decides, and nothing is taken: a fifth Transmit before a Status Bus-Off
     ∷ session 2 (submission 0 (standard 1 ++ standard 1 ++ standard 1 ++ standard 1) ∷ submission 0 (w2 ++ standard 1 ++ off) ∷ [])
     gives ends (accepted ∷ refused fourPending ∷ []) (4 ∷ 0 ∷ []) ([] ∷ [] ∷ [])
-    -- the largest buffer, answered into an empty queue, fills it; then 9, also where a later Status Bus-Off would make room
-    ∷ session 2 (submission 0 (zeros 4_087) ∷ submission 0 (zeros 4_086) ∷ submission 0 (w2 ++ off) ∷ submission 1 wakeup ∷ submission 1 w1 ∷ round noError ∷ [])
-    gives ends (refused bufferTooLong ∷ accepted ∷ refused queueFull ∷ refused queueFull ∷ accepted ∷ refused queueFull ∷ []) (0 ∷ 1 ∷ [])
-    (encode (FormatError 4_086) (zeros 4_086) ∷ [] ∷ [])
     -- a Bus Error meant for another sender with the same ID closes nothing; Bus-Off empties the register
     ∷ registered 3 (submission 0 (standard 5) ∷ submission 1 (standard 5) ∷ submission 2 (standard 6) ∷ submission 2 off
     ∷ round (injected 1 0) ∷ collection 0 99 ∷ collection 1 99 ∷ [])
@@ -82,3 +75,18 @@ cases =
 
 abbrev pub CasesHold : Type 0
 CasesHold = computed cases ≡ expected cases
+
+abbrev pub zeros : ℕ → List ℕ
+zeros n = replicate n 0
+
+-- the largest buffer, answered into an empty queue, fills it; then 9, also where a later Status Bus-Off would make room
+unfoldable pub fullQueue : List Line
+fullQueue =
+    session 2
+    (submission 0 (zeros 4_087) ∷ submission 0 (zeros 4_086) ∷ submission 0 (w2 ++ off) ∷ submission 1 wakeup ∷ submission 1 w1 ∷ round noError ∷ [])
+    gives ends (refused bufferTooLong ∷ accepted ∷ refused queueFull ∷ refused queueFull ∷ accepted ∷ refused queueFull ∷ []) (0 ∷ 1 ∷ [])
+    (encode (FormatError 4_086) (zeros 4_086) ∷ [] ∷ [])
+    ∷ []
+
+abbrev pub FullQueueHolds : Type 0
+FullQueueHolds = computed fullQueue ≡ expected fullQueue

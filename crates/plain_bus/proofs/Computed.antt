@@ -13,7 +13,7 @@ use Rattle.plain_bus.specs.Calls
 use Rattle.plain_bus.specs.Register
 use Rattle.plain_bus.specs.Session
 use Rattle.plain_bus.specs.Examples.{pendingCounts, queues, openIds, played, kept, reply, computed, expected, table, W1toW10}
-use Rattle.plain_bus.specs.Cases.{cases, CasesHold}
+use Rattle.plain_bus.specs.Cases.{cases, CasesHold, fullQueue, FullQueueHolds}
 
 -- every definition, opened by naming this one
 rules-open : Unit {0}
@@ -27,3 +27,7 @@ w1-to-w10 = refl
 pub cases-hold : CasesHold
 unfolding rules-open cases
 cases-hold = refl
+
+pub full-queue-holds : FullQueueHolds
+unfolding rules-open fullQueue
+full-queue-holds = refl
