@@ -11,7 +11,7 @@ use Rattle.operation.specs.Rules.{oneOf, errorCodes, legal}
 use Rattle.operation.specs.declared.Operation.{Operation}
 use Rattle.operation.specs.declared.Operation.the-variants.{Configuration, Status}
 use Rattle.plain_bus.specs.Kinds.{idOf, closes}
-use Rattle.plain_bus.specs.Held.{Frame, Node, maxPending, queueCapacity, isOff, withQueue, enqueue}
+use Rattle.plain_bus.specs.Held.{Frame, Node, maxPending, queueCapacity, busOff, isOff, withQueue, enqueue}
 use Rattle.plain_bus.specs.Submit.{accept, configure, setStatus}
 use Rattle.plain_bus.specs.Order.{Entry}
 use Rattle.plain_bus.specs.Round.{Injection, noError, injected, owed, settle}
@@ -28,19 +28,20 @@ pub record Own (w : Entry) (d : Node) : Type 0 where
   pub placed : w .position < length (d .pending)
   pub held : getD (d .pending) (w .position) (w .frame) ≡ w .frame
 
--- the round number before and after, what the register's call does, and the node before and after
-pub data Change : ℕ → ℕ → (Register → Update) → Node → Node → Type 0 where
-  still : {now : ℕ} {d : Node} → Change now now updated d d
-  ignored : {now : ℕ} {d : Node} (id : ℕ) → isOff d ≡ true → Change now now (λ x. openId x id) d d
-  joined : {now : ℕ} {d : Node} (f : Frame) → isOff d ≡ false → length (d .pending) < maxPending → ValidFrame f → f .accepted ≡ now
-      → Change now now (λ x. openId x (idOf (f .op))) d (accept d f)
+-- the round number before and after; whether a Status Bus-Off cleared the node; what the register's call does; the node
+-- before and after
+pub data Change : ℕ → ℕ → Bool → (Register → Update) → Node → Node → Type 0 where
+  still : {now : ℕ} {d : Node} → Change now now false updated d d
+  ignored : {now : ℕ} {d : Node} (id : ℕ) → isOff d ≡ true → Change now now false (λ x. openId x id) d d
+  joined : {now : ℕ} {d : Node} (f : Frame) → isOff d ≡ false → length (d .pending) < maxPending → ValidFrame f
+      → f .accepted ≡ now → Change now now false (λ x. openId x (idOf (f .op))) d (accept d f)
   configured : {now : ℕ} {d : Node} (kind value : ℕ) → legal (Configuration kind value) ≡ true
-      → Change now now updated d (configure d kind value)
+      → Change now now false updated d (configure d kind value)
   statusSet : {now : ℕ} {d : Node} (status : ℕ) → legal (Status status) ≡ true
-      → Change now now (λ x. updated (noteStatus x status)) d (setStatus d status)
+      → Change now now (eqb status busOff) (λ x. updated (noteStatus x status)) d (setStatus d status)
   answered : {now : ℕ} {d : Node} (op : Operation) (bytes : List ℕ) → ReadsAs op bytes → closes op ≡ false
-      → length (d .queue) + length bytes ≤ queueCapacity → Change now now updated d (enqueue d bytes)
+      → length (d .queue) + length bytes ≤ queueCapacity → Change now now false updated d (enqueue d bytes)
   settled : {now : ℕ} {d : Node} (e : Injection) (w : Entry) (j : ℕ) → LegalInjection e → ValidFrame (w .frame)
       → (eqb j (w .owner) ≡ true → Own w d) → length (d .queue) + length (owed e w j d) ≤ queueCapacity
-      → Change now (now + 1) updated d (settle e w j d)
-  collected : {now : ℕ} {d : Node} → Change now now (λ x. read x (d .queue)) d (withQueue d [])
+      → Change now (now + 1) false updated d (settle e w j d)
+  collected : {now : ℕ} {d : Node} → Change now now false (λ x. read x (d .queue)) d (withQueue d [])

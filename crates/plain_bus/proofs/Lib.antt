@@ -10,8 +10,9 @@ pub mod Validity
 pub mod Owed
 pub mod Tally
 pub mod Steps
+pub mod Outcomes
 pub mod Kept
 pub mod Demand3
+pub mod Registers
 pub mod Rounds
 pub mod Waiting
-pub mod Registers

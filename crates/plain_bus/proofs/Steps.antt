@@ -16,7 +16,7 @@ use Rattle.operation.specs.declared.Operation.the-variants.{FormatError, CanTra
 use Rattle.decoder.specs.Stream.{Item, operation, fault}
 use Rattle.decoder.proofs.Found.{found}
 use Rattle.plain_bus.specs.Kinds.{isTransmit, idOf, closes}
-use Rattle.plain_bus.specs.Held.{Frame, Node, Bus, maxPending, queueCapacity, lastRound, isOff, withQueue, newNode, attached, nodeAt, withNode, withNodes, eachNode, everyNode, hasRoom, enqueue}
+use Rattle.plain_bus.specs.Held.{Frame, Node, Bus, maxPending, queueCapacity, lastRound, busOff, isOff, withQueue, newNode, attached, nodeAt, withNode, withNodes, eachNode, everyNode, hasRoom, enqueue}
 use Rattle.plain_bus.specs.Refusal.{Refusal, fourPending, queueFull}
 use Rattle.plain_bus.specs.Submit.{Step, done, fails, accept, takeTransmit, configure, setStatus, wakeupFor, takeWakeup, formatError, answerFormatError, unanswered, takeItem, takeItems}
 use Rattle.plain_bus.specs.Order.{Entry, Pending, Winner, nobody, wins, winner}
@@ -28,14 +28,17 @@ use Rattle.plain_bus.proofs.Codec.{reads-format-error, reads-wakeup}
 use Rattle.plain_bus.proofs.Whole.{ValidItem}
 use Rattle.plain_bus.proofs.Nodes.{length-each, each-at, every-at}
 use Rattle.plain_bus.proofs.Winner.{winner-pending}
+use Rattle.plain_bus.proofs.Validity.{pending-valid}
 use Rattle.plain_bus.proofs.Changes.{LegalInjection, Own, Change, still, ignored, joined, configured, statusSet, answered, settled, collected}
 
--- a step from b to b′, whose register call is one of node k
-pub record Stepped (b b′ : Bus) (k : ℕ) (call : Register → Update) : Type 0 where
+-- a step from b to b′ of a call of node k: the round number after it, whether it clears node k, and what the call of node k's
+-- register does
+pub record Stepped (b b′ : Bus) (k later : ℕ) (clears : Bool) (call : Register → Update) : Type 0 where
   pub size : length (b′ .nodes) ≡ length (b .nodes)
-  pub bound : b .round ≤ lastRound → b′ .round ≤ lastRound
-  pub own : Change (b .round) (b′ .round) call (nodeAt b k) (nodeAt b′ k)
-  pub others : (j : ℕ) → j < length (b .nodes) → (j ≡ k → ⊥) → Change (b .round) (b′ .round) updated (nodeAt b j) (nodeAt b′ j)
+  pub round : b′ .round ≡ later
+  pub bound : b .round ≤ lastRound → later ≤ lastRound
+  pub own : Change (b .round) later clears call (nodeAt b k) (nodeAt b′ k)
+  pub others : (j : ℕ) → j < length (b .nodes) → (j ≡ k → ⊥) → Change (b .round) later false updated (nodeAt b j) (nodeAt b′ j)
 
 pub bus-of : {b b′ : Bus} → done b ≡ done b′ → b ≡ b′
 bus-of e = cc
@@ -44,8 +47,9 @@ pub never : {P : Type 0} {r : Refusal} {b : Bus} → fails r ≡ done b → P
 never e = let z : _≡_ {A = ℕ} 0 1 = cc in absurd (omega arith)
 
 -- the bus of a step that is done
-moved : {b b′ b″ : Bus} {k : ℕ} {call : Register → Update} → done b′ ≡ done b″ → Stepped b b′ k call → Stepped b b″ k call
-moved {b} {k = k} {call = call} e s = subst (λ (y : Bus). Stepped b y k call) (bus-of e) s
+moved : {b b′ b″ : Bus} {k later : ℕ} {clears : Bool} {call : Register → Update} → done b′ ≡ done b″ → Stepped b b′ k later clears call
+    → Stepped b b″ k later clears call
+moved {b} {k = k} {later = later} {clears = clears} {call = call} e s = subst (λ (y : Bus). Stepped b y k later clears call) (bus-of e) s
 
 -- what failed stays failed
 pub fails-stay : (k : ℕ) (is : List Item) (r : Refusal) → takeItems k is (fails r) ≡ fails r
@@ -53,23 +57,39 @@ unfolding takeItems
 fails-stay k [] r = refl
 fails-stay k (i ∷ is) r = refl
 
+-- an item that is a Status Bus-Off
+abbrev pub turnsOff : Item → Bool
+turnsOff (operation (FormatError n) bytes) = false
+turnsOff (operation (CanTransmit id ide rtr dl) bytes) = false
+turnsOff (operation (FdTransmit id ide brs esi dl) bytes) = false
+turnsOff (operation (XlTransmit id ide sec sdt vcid af dl) bytes) = false
+turnsOff (operation (Confirm id) bytes) = false
+turnsOff (operation (ArbitrationLost id) bytes) = false
+turnsOff (operation (BusError id code flag sender) bytes) = false
+turnsOff (operation (Configuration kind value) bytes) = false
+turnsOff (operation (Status status) bytes) = eqb status busOff
+turnsOff (operation Wakeup bytes) = false
+turnsOff (fault number bytes) = false
+
 -- ---- a step of a submitted buffer
 
 module _ (b : Bus) (k : ℕ) (h : k < length (b .nodes)) where
   -- only node k is changed
-  node-step : {call : Register → Update} (d′ : Node) → Change (b .round) (b .round) call (nodeAt b k) d′ → Stepped b (withNode b k d′) k call
+  node-step : {clears : Bool} {call : Register → Update} (d′ : Node) → Change (b .round) (b .round) clears call (nodeAt b k) d′
+      → Stepped b (withNode b k d′) k (b .round) clears call
   node-step d′ c = record {
     size = length-set (b .nodes) k d′;
+    round = refl;
     bound = λ l. l;
     own = rw (getD-set-same (b .nodes) k d′ newNode h) c;
     others = λ j l n. rw (getD-set-other (b .nodes) k j d′ newNode n) still;
   }
 
-  same-step : {call : Register → Update} → Change (b .round) (b .round) call (nodeAt b k) (nodeAt b k) → Stepped b b k call
-  same-step c = record { size = refl; bound = λ l. l; own = c; others = λ j l n. still }
+  same-step : {call : Register → Update} → Change (b .round) (b .round) false call (nodeAt b k) (nodeAt b k) → Stepped b b k (b .round) false call
+  same-step c = record { size = refl; round = refl; bound = λ l. l; own = c; others = λ j l n. still }
 
   transmit-step : (op : Operation) (bytes : List ℕ) {b′ : Bus} → isTransmit op ≡ true → ReadsAs op bytes → takeTransmit b k op bytes ≡ done b′
-      → Stepped b b′ k (λ x. openId x (idOf op))
+      → Stepped b b′ k (b .round) false (λ x. openId x (idOf op))
   unfolding takeTransmit
   transmit-step op bytes {b′} t r e = go (isOff (nodeAt b k)) refl (leb maxPending (length (nodeAt b k .pending))) refl e
     where
@@ -77,7 +97,7 @@ module _ (b : Bus) (k : ℕ) (h : k < length (b .nodes)) where
       f = record { op = op; bytes = bytes; accepted = b .round }
 
       go : (o : Bool) → isOff (nodeAt b k) ≡ o → (p : Bool) → leb maxPending (length (nodeAt b k .pending)) ≡ p
-          → cond o (done b) (cond p (fails fourPending) (done (withNode b k (accept (nodeAt b k) f)))) ≡ done b′ → Stepped b b′ k (λ x. openId x (idOf op))
+          → cond o (done b) (cond p (fails fourPending) (done (withNode b k (accept (nodeAt b k) f)))) ≡ done b′ → Stepped b b′ k (b .round) false (λ x. openId x (idOf op))
       go true qo p qp e = moved e (same-step (ignored (idOf op) qo))
       go false qo true qp e = never e
       go false qo false qp e =
@@ -89,48 +109,49 @@ module _ (b : Bus) (k : ℕ) (h : k < length (b .nodes)) where
   unfolding encode
   answer-long bytes = rw length-append (omega arith)
 
-  answer-step : (bytes : List ℕ) {b′ : Bus} → answerFormatError b k bytes ≡ done b′ → Stepped b b′ k updated
+  answer-step : (bytes : List ℕ) {b′ : Bus} → answerFormatError b k bytes ≡ done b′ → Stepped b b′ k (b .round) false updated
   unfolding answerFormatError
   answer-step bytes {b′} e = go (hasRoom (nodeAt b k) (formatError bytes)) refl e
     where
       go : (t : Bool) → hasRoom (nodeAt b k) (formatError bytes) ≡ t
-          → cond t (done (withNode b k (enqueue (nodeAt b k) (formatError bytes)))) (fails queueFull) ≡ done b′ → Stepped b b′ k updated
+          → cond t (done (withNode b k (enqueue (nodeAt b k) (formatError bytes)))) (fails queueFull) ≡ done b′ → Stepped b b′ k (b .round) false updated
       go false q e = never e
       go true q e =
           let room : length (nodeAt b k .queue) + length (formatError bytes) ≤ queueCapacity = leb-true _ queueCapacity q in
           moved e
           (node-step _ (answered (FormatError (length bytes)) (formatError bytes) (reads-format-error bytes (omega (arith, answer-long bytes))) refl room))
 
-  wakeup-change : (now j : ℕ) (d : Node) → hasRoom d (wakeupFor k j d) ≡ true → Change now now updated d (enqueue d (wakeupFor k j d))
+  wakeup-change : (now j : ℕ) (d : Node) → hasRoom d (wakeupFor k j d) ≡ true → Change now now false updated d (enqueue d (wakeupFor k j d))
   wakeup-change now j d r = go (eqb j k || isOff d) r
     where
-      go : (t : Bool) → hasRoom d (cond t [] (encode Wakeup [])) ≡ true → Change now now updated d (enqueue d (cond t [] (encode Wakeup [])))
-      go true r = subst (λ (q : List ℕ). Change now now updated d (withQueue d q)) (sym (append-nil (d .queue))) still
+      go : (t : Bool) → hasRoom d (cond t [] (encode Wakeup [])) ≡ true → Change now now false updated d (enqueue d (cond t [] (encode Wakeup [])))
+      go true r = subst (λ (q : List ℕ). Change now now false updated d (withQueue d q)) (sym (append-nil (d .queue))) still
       go false r = answered Wakeup (encode Wakeup []) reads-wakeup refl (leb-true _ queueCapacity r)
 
-  wakeup-step : {b′ : Bus} → takeWakeup b k ≡ done b′ → Stepped b b′ k updated
+  wakeup-step : {b′ : Bus} → takeWakeup b k ≡ done b′ → Stepped b b′ k (b .round) false updated
   unfolding takeWakeup
   wakeup-step {b′} e = go (isOff (nodeAt b k)) (everyNode (λ j d. hasRoom d (wakeupFor k j d)) 0 (b .nodes)) refl e
     where
       at : everyNode (λ j d. hasRoom d (wakeupFor k j d)) 0 (b .nodes) ≡ true → (j : ℕ) → j < length (b .nodes)
-          → Change (b .round) (b .round) updated (nodeAt b j) (getD (eachNode (λ j d. enqueue d (wakeupFor k j d)) 0 (b .nodes)) j newNode)
+          → Change (b .round) (b .round) false updated (nodeAt b j) (getD (eachNode (λ j d. enqueue d (wakeupFor k j d)) 0 (b .nodes)) j newNode)
       at q j l =
           rw (each-at (λ j d. enqueue d (wakeupFor k j d)) (b .nodes) j l)
           (wakeup-change (b .round) j (nodeAt b j) (every-at (λ j d. hasRoom d (wakeupFor k j d)) (b .nodes) q j l))
 
       go : (o t : Bool) → everyNode (λ j d. hasRoom d (wakeupFor k j d)) 0 (b .nodes) ≡ t
-          → cond o (done b) (cond t (done (withNodes b (eachNode (λ j d. enqueue d (wakeupFor k j d)) 0 (b .nodes)))) (fails queueFull)) ≡ done b′ → Stepped b b′ k updated
+          → cond o (done b) (cond t (done (withNodes b (eachNode (λ j d. enqueue d (wakeupFor k j d)) 0 (b .nodes)))) (fails queueFull)) ≡ done b′ → Stepped b b′ k (b .round) false updated
       go true t q e = moved e (same-step still)
       go false false q e = never e
       go false true q e = moved e (record {
         size = length-each (λ j d. enqueue d (wakeupFor k j d)) 0 (b .nodes);
+        round = refl;
         bound = λ l. l;
         own = at q k h;
         others = λ j l n. at q j l;
       })
 
   -- one item of a buffer, and its entry into the register
-  pub item-step : (i : Item) {b′ : Bus} → ValidItem i → takeItem k b i ≡ done b′ → Stepped b b′ k (λ x. enterItem x i)
+  pub item-step : (i : Item) {b′ : Bus} → ValidItem i → takeItem k b i ≡ done b′ → Stepped b b′ k (b .round) (turnsOff i) (λ x. enterItem x i)
   unfolding takeItem enterItem
   item-step (operation (FormatError n) bytes) v e = moved e (same-step still)
   item-step (operation (CanTransmit id ide rtr dl) bytes) v e = transmit-step (CanTransmit id ide rtr dl) bytes refl v e
@@ -145,12 +166,12 @@ module _ (b : Bus) (k : ℕ) (h : k < length (b .nodes)) where
   item-step (operation Wakeup bytes) v e = wakeup-step e
   item-step (fault number bytes) v e = go (unanswered bytes) e
     where
-      go : {b′ : Bus} (t : Bool) → cond t (done b) (answerFormatError b k bytes) ≡ done b′ → Stepped b b′ k updated
+      go : {b′ : Bus} (t : Bool) → cond t (done b) (answerFormatError b k bytes) ≡ done b′ → Stepped b b′ k (b .round) false updated
       go true e = moved e (same-step still)
       go false e = answer-step bytes e
 
   -- a collect, and its reading into the register
-  pub collect-step : Stepped b (withNode b k (withQueue (nodeAt b k) [])) k (λ x. read x (nodeAt b k .queue))
+  pub collect-step : Stepped b (withNode b k (withQueue (nodeAt b k) [])) k (b .round) false (λ x. read x (nodeAt b k .queue))
   collect-step = node-step (withQueue (nodeAt b k) []) collected
 
 -- ---- a round that is carried out
@@ -164,16 +185,12 @@ injection-legal b (injected code detector) q = go (oneOf code errorCodes) refl q
     go true e q = e
     go false e q = let z : _≡_ {A = ℕ} 0 1 = cc in absurd (omega arith)
 
-frame-valid : (low now i : ℕ) (fs : List Frame) (f : Frame) → ValidFrames low now fs → i < length fs → getD fs i f ≡ f → ValidFrame f
-frame-valid low now i [] f v h e = absurd (omega arith)
-frame-valid low now zero (g ∷ fs) f v h e = subst ValidFrame e (v .0)
-frame-valid low now (suc i) (g ∷ fs) f v h e = frame-valid (g .accepted) now i fs f (v .3) (omega arith) e
-
 pub round-step : (b : Bus) (e : Injection) (w : Entry) → Valid b → wrongInjection b e ≡ false → winner b ≡ wins w
-    → everyNode (λ j d. hasRoom d (owed e w j d)) 0 (b .nodes) ≡ true → b .round < lastRound → Stepped b (afterRound e w b) (w .owner) updated
+    → everyNode (λ j d. hasRoom d (owed e w j d)) 0 (b .nodes) ≡ true → b .round < lastRound → Stepped b (afterRound e w b) (w .owner) (b .round + 1) false updated
 unfolding afterRound
 round-step b e w v l q room last = record {
   size = length-each (settle e w) 0 (b .nodes);
+  round = refl;
   bound = λ h. omega arith;
   own = at (w .owner) (s .attached);
   others = λ j h n. at j h;
@@ -183,12 +200,12 @@ round-step b e w v l q room last = record {
     s = winner-pending b w q
 
     f : ValidFrame (w .frame)
-    f = frame-valid 0 (b .round) (w .position) (nodeAt b (w .owner) .pending) (w .frame) (v .each (w .owner) (s .attached) .frames) (s .placed) (s .held)
+    f = pending-valid b w v s .0
 
     own : (j : ℕ) → eqb j (w .owner) ≡ true → Own w (nodeAt b j)
     own j e = let o : j ≡ w .owner = eqb-true j (w .owner) e in rw o (record { placed = s .placed; held = s .held })
 
-    at : (j : ℕ) → j < length (b .nodes) → Change (b .round) (b .round + 1) updated (nodeAt b j) (getD (eachNode (settle e w) 0 (b .nodes)) j newNode)
+    at : (j : ℕ) → j < length (b .nodes) → Change (b .round) (b .round + 1) false updated (nodeAt b j) (getD (eachNode (settle e w) 0 (b .nodes)) j newNode)
     at j h =
         rw (each-at (settle e w) (b .nodes) j h)
         (settled e w j (injection-legal b e l) f (own j) (leb-true _ queueCapacity (every-at (λ j d. hasRoom d (owed e w j d)) (b .nodes) room j h)))

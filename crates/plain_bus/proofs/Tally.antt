@@ -202,7 +202,7 @@ collected-tally {now} {d} {x} v t =
     )
 
 -- every change keeps the tally, its register call being done
-pub change-tally : {now later : ℕ} {call : Register → Update} {d d′ : Node} {x : Register} → Change now later call d d′
+pub change-tally : {now later : ℕ} {clears : Bool} {call : Register → Update} {d d′ : Node} {x : Register} → Change now later clears call d d′
     → ValidNode now d → Whole (d .queue) → Tally d x → Tallied call d′ x
 unfolding settle openId count
 change-tally {x = x} still v w t = (x, refl, t)
@@ -218,7 +218,7 @@ change-tally {now} {d = d} {x = x} (settled e s j l vf own room) v w t =
 change-tally collected v w t = collected-tally v t
 
 -- every change keeps the queue a sequence of whole operations
-pub change-whole : {now later : ℕ} {call : Register → Update} {d d′ : Node} → Change now later call d d′ → ValidNode now d → Whole (d .queue) → Whole (d′ .queue)
+pub change-whole : {now later : ℕ} {clears : Bool} {call : Register → Update} {d d′ : Node} → Change now later clears call d d′ → ValidNode now d → Whole (d .queue) → Whole (d′ .queue)
 unfolding settle configure setStatus
 change-whole still v w = w
 change-whole (ignored id off) v w = w

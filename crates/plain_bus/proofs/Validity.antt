@@ -12,12 +12,12 @@ use Rattle.operation.specs.Rules.{oneOf, settingRule, rules, legal, statuses, b
 use Rattle.operation.specs.declared.Operation.{Operation}
 use Rattle.operation.proofs.Tests.{passed}
 use Rattle.operation.specs.declared.Operation.the-variants.{Configuration, Status}
-use Rattle.plain_bus.specs.Held.{Frame, Node, maxPending, queueCapacity, busOff, isOff, withStatus, withBehaviour, withRates, withPending, withQueue, enqueue}
+use Rattle.plain_bus.specs.Held.{Frame, Node, Bus, maxPending, queueCapacity, busOff, isOff, withStatus, withBehaviour, withRates, withPending, withQueue, nodeAt, enqueue}
 use Rattle.plain_bus.specs.Submit.{cleared, configure, setStatus}
-use Rattle.plain_bus.specs.Order.{Entry}
+use Rattle.plain_bus.specs.Order.{Entry, Pending}
 use Rattle.plain_bus.specs.Round.{Injection, without, losers, drops, told, stay, owed, settle}
 use Rattle.plain_bus.specs.Register.{Register, Update}
-use Rattle.plain_bus.specs.Valid.{ValidFrame, ValidFrames, NonZero, ValidNode}
+use Rattle.plain_bus.specs.Valid.{ValidFrame, ValidFrames, NonZero, ValidNode, Valid}
 use Rattle.plain_bus.proofs.Changes.{Change, still, ignored, joined, configured, statusSet, answered, settled, collected}
 
 -- ---- pending frames
@@ -45,6 +45,18 @@ unfolding without
 length-without i [] = omega arith
 length-without zero (f ∷ fs) = omega arith
 length-without (suc i) (f ∷ fs) = omega (arith, length-without i fs)
+
+frame-at : (low now i : ℕ) (fs : List Frame) (f : Frame) → ValidFrames low now fs → i < length fs → getD fs i f ≡ f
+    → ValidFrame f × (f .accepted ≤ now)
+frame-at low now i [] f v h e = absurd (omega arith)
+frame-at low now zero (g ∷ fs) f v h e = subst (λ (x : Frame). ValidFrame x × (x .accepted ≤ now)) e (v .0, v .2)
+frame-at low now (suc i) (g ∷ fs) f v h e = frame-at (g .accepted) now i fs f (v .3) (omega arith) e
+
+-- a pending frame of a valid bus is valid, and was accepted at a round not above the present one
+pub pending-valid : (b : Bus) (w : Entry) → Valid b → Pending b w → ValidFrame (w .frame) × (w .frame .accepted ≤ b .round)
+pending-valid b w v p =
+    frame-at 0 (b .round) (w .position) (nodeAt b (w .owner) .pending) (w .frame) (v .each (w .owner) (p .attached) .frames)
+    (p .placed) (p .held)
 
 -- ---- settings
 
@@ -188,7 +200,7 @@ told-valid now d w j v = go (drops w j d) (eqb j (w .owner))
     go true false = v .frames
 
 -- every change keeps a node valid
-pub change-valid : {now later : ℕ} {call : Register → Update} {d d′ : Node} → Change now later call d d′ → ValidNode now d → ValidNode later d′
+pub change-valid : {now later : ℕ} {clears : Bool} {call : Register → Update} {d d′ : Node} → Change now later clears call d d′ → ValidNode now d → ValidNode later d′
 unfolding settle
 change-valid still v = v
 change-valid (ignored id o) v = v
