@@ -15,7 +15,7 @@ use Rattle.plain_bus.specs.Held.{Frame, Node, maxPending, queueCapacity,
 use Rattle.plain_bus.specs.Submit.{accept, configure, setStatus}
 use Rattle.plain_bus.specs.Order.{Entry}
 use Rattle.plain_bus.specs.Round.{Injection, noError, injected, owed, settle}
-use Rattle.plain_bus.specs.Valid.{ReadsAs, ValidFrame}
+use Rattle.plain_bus.specs.Valid.{ReadsWhole, ValidFrame}
 use Rattle.plain_bus.specs.Register.{Register, Update, updated, openId, noteStatus, read}
 
 -- an injection whose code is in the table
@@ -39,7 +39,7 @@ pub data Change : ℕ → ℕ → Bool → (Register → Update) → Node → No
       → Change now now false updated d (configure d kind value)
   statusSet : {now : ℕ} {d : Node} (status : ℕ) → legal (Status status) ≡ true
       → Change now now (eqb status busOff) (λ x. updated (noteStatus x status)) d (setStatus d status)
-  answered : {now : ℕ} {d : Node} (op : Operation) (bytes : List ℕ) → ReadsAs op bytes → closes op ≡ false
+  answered : {now : ℕ} {d : Node} (op : Operation) (bytes : List ℕ) → ReadsWhole op bytes → closes op ≡ false
       → length (d .queue) + length bytes ≤ queueCapacity → Change now now false updated d (enqueue d bytes)
   settled : {now : ℕ} {d : Node} (e : Injection) (w : Entry) (j : ℕ) → LegalInjection e → ValidFrame (w .frame)
       → (eqb j (w .owner) ≡ true → Own w d) → length (d .queue) + length (owed e w j d) ≤ queueCapacity

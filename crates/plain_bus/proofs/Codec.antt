@@ -1,31 +1,29 @@
 -- What the bus itself writes reads as what was written.
 -- Assumes nothing.
-use mathlib.Core.Path.{_≡_, refl, sym, ap, _∙_, subst}
-use Prim.Native.Nat.{ℕ, zero, suc, _+_, _-_, _≤_, _<_}
+use mathlib.Core.Path.{_≡_, refl, sym, ap, _∙_}
+use Prim.Native.Nat.{ℕ, _+_, _≤_, _<_}
 use native.Mathlib.Omega.{arith}
-use mathlib.Core.List.{List, [], _∷_, _++_}
-use mathlib.Core.Bool.{Bool, true, false, cond, _&&_}
-use lib.Dec.{leb, eqb, lit<, lit≤}
-use lib.ListN.{length, take, drop, getD}
+use mathlib.Core.List.{List, []}
+use mathlib.Core.Bool.{true}
+use lib.Dec.{lit<, lit≤}
+use lib.ListN.{length}
 use lib.Seq.{take-length}
 use borrow.Author.Tests.{le-leb, eq-eqb, leb-true}
-use Rattle.operation.specs.Number.{littleEndian, number, numberAt}
+use Rattle.operation.specs.Number.{numberAt}
 use Rattle.operation.specs.Format.{header, encode, codeOf, dataLength, headLength, lengthOf}
-use Rattle.operation.specs.Rules.{maxExtendedId, legal, rules, all, allAfter}
+use Rattle.operation.specs.Rules.{maxExtendedId, legal, rules, allAfter}
 use Rattle.operation.specs.declared.Operation.{Operation}
 use Rattle.operation.specs.declared.Operation.the-variants.{FormatError, Confirm, ArbitrationLost, BusError, Wakeup}
 use Rattle.operation.proofs.Numbers.{number-back}
 use Rattle.operation.proofs.Sizes.{encode-length, head-least, head-small}
 use Rattle.operation.proofs.Tests.{passed}
-use Rattle.decoder.specs.Front.{Shape, holds, kindOf, shapeOf, verdict, judge, decode, statedLength, front}
-use Rattle.decoder.specs.declared.Front.{Front}
-use Rattle.decoder.specs.declared.Front.the-variants.{Found}
+use Rattle.decoder.specs.Front.{holds, kindOf, shapeOf, verdict, judge, decode, statedLength}
 use Rattle.decoder.proofs.Found.{front-is}
-use Rattle.plain_bus.specs.Valid.{ReadsAs}
+use Rattle.plain_bus.specs.Valid.{ReadsWhole}
 
 -- bytes of the length that they state, whose fields make an operation of that length, read as it
 reads : (s : List ℕ) (op : Operation) (least : ℕ) → 8 ≤ length s → statedLength s ≡ length s → shapeOf (kindOf (numberAt 4 s 0)) s ≡ holds least op
-    → least ≤ length s → length s ≡ lengthOf op → legal op ≡ true → ReadsAs op s
+    → least ≤ length s → length s ≡ lengthOf op → legal op ≡ true → ReadsWhole op s
 unfolding decode judge verdict
 reads s op least h stated shape enough sized lawful =
     front-is s (length s) h (omega arith) stated
@@ -34,7 +32,7 @@ reads s op least h stated shape enough sized lawful =
 
 -- where an operation's fields are read back, so is the operation
 written : (op : Operation) (payload : List ℕ) (least : ℕ) → legal op ≡ true → length payload ≡ dataLength op → dataLength op < 65_536
-    → codeOf op < 4_294_967_296 → shapeOf (kindOf (codeOf op)) (encode op payload) ≡ holds least op → least ≤ lengthOf op → ReadsAs op (encode op payload)
+    → codeOf op < 4_294_967_296 → shapeOf (kindOf (codeOf op)) (encode op payload) ≡ holds least op → least ≤ lengthOf op → ReadsWhole op (encode op payload)
 unfolding header encode
 written op payload least l p small c h e =
     let size : length (encode op payload) ≡ lengthOf op = encode-length op payload l ∙ ap (λ (n : ℕ). headLength op + n) p in
@@ -43,32 +41,32 @@ written op payload least l p small c h e =
     reads (encode op payload) op least (omega (arith, head-least op l)) (stated ∙ sym size)
     (ap (λ (n : ℕ). shapeOf (kindOf n) (encode op payload)) code ∙ h) (omega arith) size l
 
-pub reads-confirm : (id : ℕ) → id ≤ maxExtendedId → ReadsAs (Confirm id) (encode (Confirm id) [])
+pub reads-confirm : (id : ℕ) → id ≤ maxExtendedId → ReadsWhole (Confirm id) (encode (Confirm id) [])
 unfolding header encode shapeOf legal rules allAfter
 reads-confirm id h =
     written (Confirm id) [] 12 (le-leb id maxExtendedId h) refl (lit< tt) (lit< tt)
     (ap (λ (x : ℕ). holds 12 (Confirm x)) (number-back 4 id (omega arith))) (lit≤ tt)
 
-pub reads-lost : (id : ℕ) → id ≤ maxExtendedId → ReadsAs (ArbitrationLost id) (encode (ArbitrationLost id) [])
+pub reads-lost : (id : ℕ) → id ≤ maxExtendedId → ReadsWhole (ArbitrationLost id) (encode (ArbitrationLost id) [])
 unfolding header encode shapeOf legal rules allAfter
 reads-lost id h =
     written (ArbitrationLost id) [] 12 (le-leb id maxExtendedId h) refl (lit< tt) (lit< tt)
     (ap (λ (x : ℕ). holds 12 (ArbitrationLost x)) (number-back 4 id (omega arith))) (lit≤ tt)
 
 pub reads-bus-error : (id code flag sender : ℕ) → legal (BusError id code flag sender) ≡ true
-    → ReadsAs (BusError id code flag sender) (encode (BusError id code flag sender) [])
+    → ReadsWhole (BusError id code flag sender) (encode (BusError id code flag sender) [])
 unfolding header encode shapeOf legal rules
 reads-bus-error id code flag sender l =
     let low : id ≤ maxExtendedId = leb-true id maxExtendedId (passed _ l 0) in
     written (BusError id code flag sender) [] 15 l refl (lit< tt) (lit< tt)
     (ap (λ (x : ℕ). holds 15 (BusError x code flag sender)) (number-back 4 id (omega arith))) (lit≤ tt)
 
-pub reads-format-error : (bytes : List ℕ) → length bytes < 65_536 → ReadsAs (FormatError (length bytes)) (encode (FormatError (length bytes)) bytes)
+pub reads-format-error : (bytes : List ℕ) → length bytes < 65_536 → ReadsWhole (FormatError (length bytes)) (encode (FormatError (length bytes)) bytes)
 unfolding header encode shapeOf legal rules allAfter
 reads-format-error bytes h =
     written (FormatError (length bytes)) bytes 10 refl refl h (lit< tt)
     (ap (λ (x : ℕ). holds 10 (FormatError x)) (number-back 2 (length bytes) (omega arith))) (omega arith)
 
-pub reads-wakeup : ReadsAs Wakeup (encode Wakeup [])
+pub reads-wakeup : ReadsWhole Wakeup (encode Wakeup [])
 unfolding header encode shapeOf legal rules allAfter
 reads-wakeup = written Wakeup [] 8 refl refl (lit< tt) (lit< tt) refl (lit≤ tt)

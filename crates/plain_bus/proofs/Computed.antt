@@ -1,6 +1,6 @@
 -- W1 to W10 and the cases that are easy to get wrong, by computation.
 -- Assumes nothing.
-use mathlib.Core.Path.{_≡_, refl}
+use mathlib.Core.Path.{refl}
 use Rattle.operation.specs.Format.{header, encode}
 use Rattle.operation.specs.Rules.{allAfter, oneOf, fdLength, rules, legal}
 use Rattle.decoder.specs.Front.{shapeOf, verdict, judge, decode, front}

@@ -15,7 +15,7 @@ use Rattle.plain_bus.specs.Submit.{Step, done, fails, takeItem, takeItem
 use Rattle.plain_bus.specs.Round.{afterRound}
 use Rattle.plain_bus.specs.Calls.{Outcome, start}
 use Rattle.plain_bus.specs.Register.{Register, newRegister, Update, updated, rejected, updates, enterItem, enter, read}
-use Rattle.plain_bus.specs.Session.{Call, submission, round, collection, call, Registers, registerAt, keep, followUp, World, opening, after, run, count, pendingIds, closingIds, Claim, Demand3}
+use Rattle.plain_bus.specs.Session.{Call, submission, round, collection, call, Registers, keep, followUp, World, opening, after, run, count, pendingIds, closingIds, Demand3}
 use Rattle.plain_bus.proofs.Whole.{ValidItems, items-nil, items-valid}
 use Rattle.plain_bus.proofs.Winner.{winner-pending}
 use Rattle.plain_bus.proofs.Tally.{Tally, register-valid, change-tally}

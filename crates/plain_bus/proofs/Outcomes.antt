@@ -2,7 +2,6 @@
 -- Assumes nothing.
 use mathlib.Core.Path.{_≡_, refl}
 use Prim.Native.Nat.{ℕ, _<_}
-use native.Mathlib.Omega.{arith}
 use mathlib.Core.Bool.{Bool, true, false, cond, not}
 use mathlib.Core.List.{List, []}
 use lib.Dec.{leb, ltb}
@@ -14,7 +13,7 @@ use Rattle.plain_bus.specs.Refusal.{Refusal, notAttached, bufferTooLong,
 use Rattle.plain_bus.specs.Submit.{Step, done, fails, takeItems}
 use Rattle.plain_bus.specs.Order.{Entry, Winner, nobody, wins, winner}
 use Rattle.plain_bus.specs.Round.{Injection, isErrored, winnerId, owed, afterRound, age}
-use Rattle.plain_bus.specs.Calls.{Answer, refused, accepted, idle, carried, collected, Outcome, gives, refuses, maxSubmit, taken, submit, wrongInjection, arbitrate, runRound, collect}
+use Rattle.plain_bus.specs.Calls.{accepted, idle, carried, collected, Outcome, gives, refuses, maxSubmit, taken, submit, wrongInjection, arbitrate, runRound, collect}
 use Rattle.plain_bus.specs.Session.{Call, submission, round, collection, call}
 
 pub data Came (b : Bus) : Call → Outcome → Type 0 where

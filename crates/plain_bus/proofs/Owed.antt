@@ -1,7 +1,7 @@
 -- What the bus adds to a queue: whole operations, with the IDs that they close.
 -- Assumes nothing.
-use mathlib.Core.Path.{_≡_, refl, sym, ap, _∙_, subst}
-use Prim.Native.Nat.{ℕ, zero, suc, _+_, _≤_, _<_}
+use mathlib.Core.Path.{_≡_, refl, sym, ap, _∙_}
+use Prim.Native.Nat.{ℕ, _≤_}
 use native.Mathlib.Omega.{arith}
 use mathlib.Core.Bool.{Bool, true, false, cond, _&&_}
 use mathlib.Core.List.{List, [], _∷_, _++_}
@@ -17,8 +17,8 @@ use Rattle.decoder.proofs.Found.{found}
 use Rattle.plain_bus.specs.Kinds.{isTransmit, idOf, closes}
 use Rattle.plain_bus.specs.Held.{Frame, Node, isOff}
 use Rattle.plain_bus.specs.Order.{Entry}
-use Rattle.plain_bus.specs.Round.{Injection, noError, injected, primaryErrorFlag, secondaryErrorFlag, winnerId, errorFor, newsFor, losers, lostNotices, told, owed}
-use Rattle.plain_bus.specs.Valid.{ReadsAs, ValidFrame, ValidFrames, Whole}
+use Rattle.plain_bus.specs.Round.{Injection, noError, injected, primaryErrorFlag, secondaryErrorFlag, winnerId, errorFor, newsFor, lostNotices, told, owed}
+use Rattle.plain_bus.specs.Valid.{ReadsWhole, ValidFrame, ValidFrames, Whole}
 use Rattle.plain_bus.specs.Session.{closingIds, pendingIds}
 use Rattle.plain_bus.proofs.Codec.{reads-confirm, reads-lost, reads-bus-error}
 use Rattle.plain_bus.proofs.Whole.{items-append, whole-append, whole-nil, items-nil, items-one, whole-one, closing-append}
@@ -46,7 +46,7 @@ legal-id (Configuration kind value) e = omega arith
 legal-id (Status status) e = omega arith
 legal-id Wakeup e = omega arith
 
-pub read-id : {op : Operation} (bytes : List ℕ) → ReadsAs op bytes → idOf op ≤ maxExtendedId
+pub read-id : {op : Operation} (bytes : List ℕ) → ReadsWhole op bytes → idOf op ≤ maxExtendedId
 read-id {op} bytes r = legal-id op (found r .lawful)
 
 -- ---- bytes that are whole operations, and the IDs that these close
@@ -65,7 +65,7 @@ says-append {a} {b} s t = record {
   closing = ap closingIds (items-append a b (s .whole)) ∙ closing-append (itemsOf a) (itemsOf b) ∙ cc (s .closing, t .closing);
 }
 
-pub says-one : {op : Operation} {bytes : List ℕ} → ReadsAs op bytes → Says bytes (cond (closes op) (idOf op ∷ []) [])
+pub says-one : {op : Operation} {bytes : List ℕ} → ReadsWhole op bytes → Says bytes (cond (closes op) (idOf op ∷ []) [])
 unfolding closingIds
 says-one {op} {bytes} r = record { whole = whole-one bytes r; closing = ap closingIds (items-one bytes r) }
 

@@ -1,7 +1,7 @@
 -- A register call that is done leaves a valid register valid; and the two refusals of a step are given exactly when listed.
 -- Assumes nothing.
-use mathlib.Core.Path.{_≡_, refl, sym, ap, _∙_, subst}
-use Prim.Native.Nat.{ℕ, zero, suc, _+_, _/_, _≤_, _<_}
+use mathlib.Core.Path.{_≡_, refl, sym, _∙_, subst}
+use Prim.Native.Nat.{ℕ, suc, _+_, _/_, _≤_, _<_}
 use native.Mathlib.Omega.{arith}
 use mathlib.Core.Bool.{Bool, true, false, cond, not, _&&_, _||_}
 use mathlib.Core.List.{List, [], _∷_, _++_}
@@ -9,13 +9,12 @@ use lib.Dec.{leb, eqb}
 use lib.ListN.{length, length-append}
 use borrow.Author.Tests.{leb-true, leb-false, le-leb, lt-leb, eqb-true}
 use Rattle.operation.specs.Rules.{maxExtendedId}
-use Rattle.operation.specs.declared.Operation.{Operation}
 use Rattle.operation.specs.declared.Operation.the-variants.{FormatError, CanTransmit, FdTransmit, XlTransmit, Confirm, ArbitrationLost, BusError, Configuration, Status, Wakeup}
 use Rattle.operation.proofs.Tests.{both, false-is-true}
 use Rattle.decoder.specs.Stream.{Item, operation, fault, itemsOf}
 use Rattle.plain_bus.specs.Kinds.{idOf, closes}
 use Rattle.plain_bus.specs.Held.{maxPending, queueCapacity, busOff}
-use Rattle.plain_bus.specs.Refusal.{Refusal, invalid, registerFull, registerDiffers}
+use Rattle.plain_bus.specs.Refusal.{invalid, registerFull, registerDiffers}
 use Rattle.plain_bus.specs.Register.{Register, maxOpen, withOpened, newRegister, noneAbove, validRegister, Update, updated, rejected, updates, openId, withOff, noteStatus, enterItem, enter, isOpen, remove, closeId, readItem, read}
 use Rattle.plain_bus.proofs.Whole.{ValidItem, ValidItems, items-valid}
 use Rattle.plain_bus.proofs.Owed.{read-id}

@@ -1,19 +1,19 @@
 -- A refused call and an idle round change nothing; and what a round that is carried out does, as its answer says: the winner,
 -- the age, what is removed and what is queued.
 -- Assumes nothing.
-use mathlib.Core.Path.{_≡_, refl, ap, _∙_, subst}
-use Prim.Native.Nat.{ℕ, zero, suc, _+_, _≤_, _<_}
+use mathlib.Core.Path.{_≡_, refl, ap, _∙_}
+use Prim.Native.Nat.{ℕ, zero, suc, _+_, _<_}
 use native.Mathlib.Omega.{arith}
 use mathlib.Core.Bool.{Bool, true, false}
 use mathlib.Core.List.{List, [], _∷_, _++_}
-use lib.ListN.{length, getD}
+use lib.ListN.{length}
 use borrow.Author.Tests.{eq-eqb, ne-eqb}
 use Rattle.plain_bus.specs.Held.{Frame, Node, Bus, discards, nodeAt}
 use Rattle.plain_bus.specs.Refusal.{Refusal}
-use Rattle.plain_bus.specs.Order.{Entry, Pending, Winner, wins, winner}
+use Rattle.plain_bus.specs.Order.{Entry, wins, winner}
 use Rattle.plain_bus.specs.Round.{Injection, isErrored, winnerId, without, losers, drops, stay, owed, settle, afterRound, age}
-use Rattle.plain_bus.specs.Calls.{Answer, refused, idle, carried, Outcome}
-use Rattle.plain_bus.specs.Valid.{ValidFrames, Valid}
+use Rattle.plain_bus.specs.Calls.{refused, idle, carried, Outcome}
+use Rattle.plain_bus.specs.Valid.{Valid}
 use Rattle.plain_bus.specs.Session.{Call, round, call}
 use Rattle.plain_bus.proofs.Nodes.{each-at}
 use Rattle.plain_bus.proofs.Winner.{winner-pending}

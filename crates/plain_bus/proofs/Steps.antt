@@ -1,28 +1,28 @@
 -- Every step of every call changes each node in one of the eight ways: the steps of a submitted buffer, a round, a collect.
 -- Assumes nothing.
-use mathlib.Core.Path.{_≡_, refl, sym, ap, _∙_, subst}
-use Prim.Native.Nat.{ℕ, zero, suc, _+_, _-_, _≤_, _<_}
+use mathlib.Core.Path.{_≡_, refl, sym, subst}
+use Prim.Native.Nat.{ℕ, _+_, _≤_, _<_}
 use native.Mathlib.Omega.{arith}
-use mathlib.Core.Bool.{Bool, true, false, cond, not, _&&_, _||_}
-use mathlib.Core.List.{List, [], _∷_, _++_, append-nil}
-use lib.Dec.{leb, ltb, eqb}
-use lib.ListN.{length, getD, set, length-append, length-set}
+use mathlib.Core.Bool.{Bool, true, false, cond, not, _||_}
+use mathlib.Core.List.{List, [], _∷_, append-nil}
+use lib.Dec.{leb, eqb}
+use lib.ListN.{length, getD, length-append, length-set}
 use lib.Seq.{getD-set-same, getD-set-other}
-use borrow.Author.Tests.{leb-true, leb-false, ltb-true, eqb-true}
-use Rattle.operation.specs.Format.{header, encode}
-use Rattle.operation.specs.Rules.{oneOf, errorCodes, legal}
+use borrow.Author.Tests.{leb-true, leb-false, eqb-true}
+use Rattle.operation.specs.Format.{encode}
+use Rattle.operation.specs.Rules.{oneOf, errorCodes}
 use Rattle.operation.specs.declared.Operation.{Operation}
 use Rattle.operation.specs.declared.Operation.the-variants.{FormatError, CanTransmit, FdTransmit, XlTransmit, Confirm, ArbitrationLost, BusError, Configuration, Status, Wakeup}
 use Rattle.decoder.specs.Stream.{Item, operation, fault}
 use Rattle.decoder.proofs.Found.{found}
-use Rattle.plain_bus.specs.Kinds.{isTransmit, idOf, closes}
+use Rattle.plain_bus.specs.Kinds.{isTransmit, idOf}
 use Rattle.plain_bus.specs.Held.{Frame, Node, Bus, maxPending, queueCapacity, lastRound, busOff, isOff, withQueue, newNode, attached, nodeAt, withNode, withNodes, eachNode, everyNode, hasRoom, enqueue}
 use Rattle.plain_bus.specs.Refusal.{Refusal, fourPending, queueFull}
-use Rattle.plain_bus.specs.Submit.{Step, done, fails, accept, takeTransmit, configure, setStatus, wakeupFor, takeWakeup, formatError, answerFormatError, unanswered, takeItem, takeItems}
-use Rattle.plain_bus.specs.Order.{Entry, Pending, Winner, nobody, wins, winner}
+use Rattle.plain_bus.specs.Submit.{done, fails, accept, takeTransmit, wakeupFor, takeWakeup, formatError, answerFormatError, unanswered, takeItem, takeItems}
+use Rattle.plain_bus.specs.Order.{Entry, Pending, wins, winner}
 use Rattle.plain_bus.specs.Round.{Injection, noError, injected, owed, settle, afterRound}
 use Rattle.plain_bus.specs.Calls.{wrongInjection}
-use Rattle.plain_bus.specs.Valid.{ReadsAs, ValidFrame, ValidFrames, ValidNode, Valid}
+use Rattle.plain_bus.specs.Valid.{ReadsWhole, ValidFrame, Valid}
 use Rattle.plain_bus.specs.Register.{Register, Update, updated, openId, enterItem, read}
 use Rattle.plain_bus.proofs.Codec.{reads-format-error, reads-wakeup}
 use Rattle.plain_bus.proofs.Whole.{ValidItem}
@@ -88,7 +88,7 @@ module _ (b : Bus) (k : ℕ) (h : k < length (b .nodes)) where
   same-step : {call : Register → Update} → Change (b .round) (b .round) false call (nodeAt b k) (nodeAt b k) → Stepped b b k (b .round) false call
   same-step c = record { size = refl; round = refl; bound = λ l. l; own = c; others = λ j l n. still }
 
-  transmit-step : (op : Operation) (bytes : List ℕ) {b′ : Bus} → isTransmit op ≡ true → ReadsAs op bytes → takeTransmit b k op bytes ≡ done b′
+  transmit-step : (op : Operation) (bytes : List ℕ) {b′ : Bus} → isTransmit op ≡ true → ReadsWhole op bytes → takeTransmit b k op bytes ≡ done b′
       → Stepped b b′ k (b .round) false (λ x. openId x (idOf op))
   unfolding takeTransmit
   transmit-step op bytes {b′} t r e = go (isOff (nodeAt b k)) refl (leb maxPending (length (nodeAt b k .pending))) refl e

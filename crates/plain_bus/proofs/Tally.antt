@@ -2,28 +2,27 @@
 -- the pending frames and of the closing operations in the queue. The test "equals an ID" gives demand 3's count; the tests
 -- "any" and "above the largest ID" show the register valid.
 -- Assumes nothing.
-use mathlib.Core.Path.{_≡_, refl, sym, ap, _∙_, subst}
-use Prim.Native.Nat.{ℕ, zero, suc, _+_, _-_, _*_, _≤_, _<_}
+use mathlib.Core.Path.{_≡_, refl, sym, ap, _∙_}
+use Prim.Native.Nat.{ℕ, zero, suc, _+_, _-_, _≤_, _<_}
 use native.Mathlib.Omega.{arith}
-use mathlib.Core.Bool.{Bool, true, false, cond, not, _&&_, _||_}
-use mathlib.Core.List.{List, [], _∷_, _++_, append-nil}
+use mathlib.Core.Bool.{Bool, true, false, cond, not, _||_}
+use mathlib.Core.List.{List, [], _∷_, _++_}
 use lib.Dec.{leb, eqb}
-use lib.ListN.{length, getD, set, length-append}
+use lib.ListN.{length, getD, set}
 use borrow.Author.Tests.{le-leb, lt-leb, eq-eqb}
 use Rattle.operation.specs.Rules.{maxExtendedId}
-use Rattle.operation.specs.declared.Operation.{Operation}
 use Rattle.decoder.specs.Stream.{Item, operation, fault, itemsOf}
 use Rattle.plain_bus.specs.Kinds.{idOf, closes}
-use Rattle.plain_bus.specs.Held.{Frame, Node, maxPending, queueCapacity, busOff, isOff, withStatus, withBehaviour, withRates, withPending, withQueue, enqueue}
+use Rattle.plain_bus.specs.Held.{Frame, Node, maxPending, busOff, isOff, withStatus, withBehaviour, withRates, withPending, withQueue, enqueue}
 use Rattle.plain_bus.specs.Submit.{accept, cleared, configure, setStatus}
 use Rattle.plain_bus.specs.Order.{Entry}
-use Rattle.plain_bus.specs.Round.{Injection, winnerId, without, losers, drops, told, stay, owed, settle}
-use Rattle.plain_bus.specs.Valid.{ReadsAs, ValidFrame, ValidFrames, ValidNode, Whole}
-use Rattle.plain_bus.specs.Register.{Register, maxOpen, withOpened, noneAbove, validRegister, Update, updated, rejected, updates, openId, withOff, noteStatus, isOpen, remove, closeId, readItem, read}
-use Rattle.plain_bus.specs.Session.{count, times, pendingIds, closingIds}
+use Rattle.plain_bus.specs.Round.{winnerId, without, losers, drops, told, stay, owed, settle}
+use Rattle.plain_bus.specs.Valid.{ValidFrames, ValidNode, Whole}
+use Rattle.plain_bus.specs.Register.{Register, maxOpen, withOpened, noneAbove, validRegister, Update, updated, updates, openId, withOff, noteStatus, isOpen, remove, closeId, readItem, read}
+use Rattle.plain_bus.specs.Session.{count, pendingIds, closingIds}
 use Rattle.plain_bus.proofs.Counts.{count-append, count-all, count-none, count-remove, open-counted, none-above}
-use Rattle.plain_bus.proofs.Whole.{ValidItem, ValidItems, items-nil, items-append, items-valid, whole-append, whole-nil, closing-append, closings-short}
-use Rattle.plain_bus.proofs.Owed.{read-id, Says, says-nil, says-one, says-owed}
+use Rattle.plain_bus.proofs.Whole.{ValidItems, items-nil, items-append, items-valid, whole-append, whole-nil, closing-append, closings-short}
+use Rattle.plain_bus.proofs.Owed.{read-id, Says, says-one, says-owed}
 use Rattle.plain_bus.proofs.Changes.{Own, Change, still, ignored, joined, configured, statusSet, answered, settled, collected}
 use Rattle.plain_bus.proofs.Validity.{told-valid}
 

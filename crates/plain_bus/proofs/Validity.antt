@@ -1,21 +1,20 @@
 -- Each change of a node keeps it valid, and keeps its queue a sequence of whole operations.
 -- Assumes nothing.
-use mathlib.Core.Path.{_≡_, refl, sym, ap, _∙_, subst}
+use mathlib.Core.Path.{_≡_, refl, _∙_, subst}
 use Prim.Native.Nat.{ℕ, zero, suc, _+_, _-_, _≤_, _<_}
 use native.Mathlib.Omega.{arith}
-use mathlib.Core.Bool.{Bool, true, false, cond, _&&_}
+use mathlib.Core.Bool.{Bool, true, false, cond}
 use mathlib.Core.List.{List, [], _∷_, _++_}
 use lib.Dec.{leb, eqb}
 use lib.ListN.{length, getD, set, length-append, length-set}
 use borrow.Author.Tests.{leb-true}
 use Rattle.operation.specs.Rules.{oneOf, settingRule, rules, legal, statuses, behaviours}
-use Rattle.operation.specs.declared.Operation.{Operation}
 use Rattle.operation.proofs.Tests.{passed}
 use Rattle.operation.specs.declared.Operation.the-variants.{Configuration, Status}
 use Rattle.plain_bus.specs.Held.{Frame, Node, Bus, maxPending, queueCapacity, busOff, isOff, withStatus, withBehaviour, withRates, withPending, withQueue, nodeAt, enqueue}
 use Rattle.plain_bus.specs.Submit.{cleared, configure, setStatus}
 use Rattle.plain_bus.specs.Order.{Entry, Pending}
-use Rattle.plain_bus.specs.Round.{Injection, without, losers, drops, told, stay, owed, settle}
+use Rattle.plain_bus.specs.Round.{without, losers, drops, told, stay, owed, settle}
 use Rattle.plain_bus.specs.Register.{Register, Update}
 use Rattle.plain_bus.specs.Valid.{ValidFrame, ValidFrames, NonZero, ValidNode, Valid}
 use Rattle.plain_bus.proofs.Changes.{Change, still, ignored, joined, configured, statusSet, answered, settled, collected}

@@ -1,8 +1,8 @@
 -- A frame that was accepted stays pending, with its acceptance round, until it is removed: what an accepted buffer and a collect
 -- leave pending at every node. (Of a round: Rounds, `round-pending`; of a refused call: `refused-same`.)
 -- Assumes nothing.
-use mathlib.Core.Path.{_≡_, refl, sym, ap, _∙_, subst}
-use Prim.Native.Nat.{ℕ, _+_, _-_, _<_}
+use mathlib.Core.Path.{_≡_, refl, sym, _∙_, subst}
+use Prim.Native.Nat.{ℕ, _-_, _<_}
 use native.Mathlib.Omega.{arith}
 use mathlib.Core.Bool.{Bool, true, false, cond, _&&_, _||_}
 use mathlib.Core.List.{List, [], _∷_, _++_, append-nil, append-assoc}
@@ -13,9 +13,9 @@ use borrow.Author.Tests.{eq-eqb, ne-eqb}
 use Rattle.decoder.specs.Stream.{Item, itemsOf}
 use Rattle.plain_bus.specs.Held.{Frame, Node, Bus, busOff, withBehaviour, withRates, withQueue, newNode, nodeAt, withNode}
 use Rattle.plain_bus.specs.Submit.{Step, done, fails, cleared, configure, setStatus, takeItem, takeItems}
-use Rattle.plain_bus.specs.Calls.{Answer, accepted, Outcome}
+use Rattle.plain_bus.specs.Calls.{accepted, Outcome}
 use Rattle.plain_bus.specs.Register.{Register, Update}
-use Rattle.plain_bus.specs.Session.{Call, submission, collection, call}
+use Rattle.plain_bus.specs.Session.{submission, collection, call}
 use Rattle.plain_bus.proofs.Whole.{ValidItems, items-valid}
 use Rattle.plain_bus.proofs.Changes.{Change, still, ignored, joined, configured, statusSet, answered, settled, collected}
 use Rattle.plain_bus.proofs.Steps.{Stepped, bus-of, never, fails-stay, turnsOff, item-step}

@@ -2,17 +2,14 @@
 -- operations close. By induction along the reading of the bytes.
 -- Assumes nothing.
 use mathlib.Core.Path.{_≡_, refl, sym, ap, _∙_, subst}
-use Prim.Native.Nat.{ℕ, zero, suc, _+_, _-_, _*_, _≤_, _<_}
+use Prim.Native.Nat.{ℕ, zero, suc, _*_, _≤_}
 use native.Mathlib.Omega.{arith}
 use native.Mathlib.Nat.{le-refl}
 use mathlib.Core.List.{List, [], _∷_, _++_, append-assoc, append-nil}
-use mathlib.Core.Bool.{Bool, true, false, cond, not}
-use lib.Dec.{leb}
-use lib.ListN.{length, take, drop, length-append, length-drop, take-append-drop}
+use mathlib.Core.Bool.{Bool, true, false, cond}
+use lib.ListN.{length, take, drop, length-drop, take-append-drop}
 use lib.Seq.{length-take-le, take-length, drop-length, take-append-le, drop-append-le}
-use borrow.Author.Tests.{le-leb}
 use Rattle.operation.specs.Format.{lengthOf}
-use Rattle.operation.specs.Rules.{maxExtendedId, legal}
 use Rattle.operation.specs.declared.Operation.{Operation}
 use Rattle.operation.specs.declared.Operation.the-variants.{FormatError, CanTransmit, FdTransmit, XlTransmit, Confirm, ArbitrationLost, BusError, Configuration, Status, Wakeup}
 use Rattle.decoder.specs.Front.{front}
@@ -20,8 +17,8 @@ use Rattle.decoder.specs.Stream.{Item, operation, fault, itemsOf}
 use Rattle.decoder.specs.declared.Front.{Front}
 use Rattle.decoder.specs.declared.Front.the-variants.{End, Fault, Found}
 use Rattle.plain_bus.specs.Kinds.{idOf, closes}
-use Rattle.plain_bus.specs.Valid.{ReadsAs, noFault, Whole}
-use Rattle.plain_bus.specs.Session.{count, closingIds}
+use Rattle.plain_bus.specs.Valid.{ReadsWhole, noFault, Whole}
+use Rattle.plain_bus.specs.Session.{closingIds}
 use Rattle.decoder.proofs.Forward.{forward}
 use Rattle.decoder.proofs.Found.{found, found-prefix}
 use Rattle.decoder.proofs.Streams.{front-nil, end-empty, unroll}
@@ -105,17 +102,17 @@ unfolding noFault
 whole-nil = ap noFault items-nil
 
 -- the bytes of one operation
-pub items-one : {op : Operation} (bytes : List ℕ) → ReadsAs op bytes → itemsOf bytes ≡ operation op bytes ∷ []
+pub items-one : {op : Operation} (bytes : List ℕ) → ReadsWhole op bytes → itemsOf bytes ≡ operation op bytes ∷ []
 items-one bytes e = unroll bytes e ∙ rw (take-length, drop-length, items-nil)
 
-pub whole-one : {op : Operation} (bytes : List ℕ) → ReadsAs op bytes → Whole bytes
+pub whole-one : {op : Operation} (bytes : List ℕ) → ReadsWhole op bytes → Whole bytes
 unfolding noFault
 whole-one bytes e = ap noFault (items-one bytes e)
 
 -- ---- the items of a buffer
 
 abbrev pub ValidItem : Item → Type 0
-ValidItem (operation op bytes) = ReadsAs op bytes
+ValidItem (operation op bytes) = ReadsWhole op bytes
 ValidItem (fault number bytes) = Unit {0}
 
 abbrev pub ValidItems : List Item → Type 0

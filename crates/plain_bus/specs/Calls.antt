@@ -8,10 +8,10 @@ use lib.Dec.{leb, ltb}
 use lib.ListN.{length}
 use Rattle.operation.specs.Rules.{oneOf, errorCodes}
 use Rattle.decoder.specs.Stream.{itemsOf}
-use Rattle.plain_bus.specs.Held.{Node, Bus, lastRound, isOff, newBus, attached, nodeAt, withNode, withQueue, everyNode, hasRoom}
+use Rattle.plain_bus.specs.Held.{Bus, lastRound, isOff, newBus, attached, nodeAt, withNode, withQueue, everyNode, hasRoom}
 use Rattle.plain_bus.specs.Refusal.{Refusal, numberOf, badNodeCount, notAttached, bufferTooLong, badInjection, queueFull, roundsUsedUp, roomTooSmall}
 use Rattle.plain_bus.specs.Submit.{Step, done, fails, takeItems}
-use Rattle.plain_bus.specs.Order.{Entry, Winner, nobody, wins, winner}
+use Rattle.plain_bus.specs.Order.{Winner, nobody, wins, winner}
 use Rattle.plain_bus.specs.Round.{Injection, noError, injected, isErrored, winnerId, owed, afterRound, age}
 
 -- what a call answers; all but a refusal have number 0. A round that is carried out answers sender, ID, whether errored, and age

@@ -3,14 +3,14 @@
 use Prim.Native.Nat.{ℕ}
 use mathlib.Core.Path.{_≡_}
 use mathlib.Core.List.{List, [], _∷_, _++_}
-use mathlib.Core.Bool.{Bool, true, false}
+use mathlib.Core.Bool.{true, false}
 use lib.ListN.{replicate}
 use Rattle.operation.specs.Format.{encode}
 use Rattle.operation.specs.declared.Operation.the-variants.{FormatError, CanTransmit, Confirm, ArbitrationLost, BusError, Status, Wakeup}
 use Rattle.plain_bus.specs.Refusal.{notAttached, bufferTooLong, badInjection, fourPending, queueFull, roomTooSmall}
 use Rattle.plain_bus.specs.Round.{noError, injected}
-use Rattle.plain_bus.specs.Calls.{Answer, refused, accepted, idle, carried, collected}
-use Rattle.plain_bus.specs.Session.{Call, submission, round, collection}
+use Rattle.plain_bus.specs.Calls.{refused, accepted, idle, carried, collected}
+use Rattle.plain_bus.specs.Session.{submission, round, collection}
 use Rattle.plain_bus.specs.Examples.{Line, _gives_, session, registered, ends, opens, computed, expected, w1, w2, w4, transmit16, discarding}
 
 -- what the sessions submit and find queued: a standard and an extended frame without data, and the short operations

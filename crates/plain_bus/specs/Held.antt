@@ -1,9 +1,9 @@
 -- What the bus holds for each attached node and over all, and how it starts (01, "What the bus holds").
 -- Nodes and the bus are changed through the setters only.
 -- Assumes nothing.
-use Prim.Native.Nat.{ℕ, zero, suc, _+_}
+use Prim.Native.Nat.{ℕ, suc, _+_}
 use mathlib.Core.List.{List, [], _∷_, _++_}
-use mathlib.Core.Bool.{Bool, true, false, _&&_}
+use mathlib.Core.Bool.{Bool, true, _&&_}
 use lib.Dec.{leb, ltb, eqb}
 use lib.ListN.{length, getD, set, replicate}
 use Rattle.operation.specs.declared.Operation.{Operation}

@@ -8,8 +8,8 @@ use lib.Dec.{eqb}
 use lib.ListN.{length, getD, set, replicate}
 use Rattle.decoder.specs.Stream.{Item, operation, fault, itemsOf}
 use Rattle.plain_bus.specs.Kinds.{idOf, closes}
-use Rattle.plain_bus.specs.Held.{Frame, Node, Bus, nodeAt}
-use Rattle.plain_bus.specs.Submit.{Step, done}
+use Rattle.plain_bus.specs.Held.{Frame, Bus, nodeAt}
+use Rattle.plain_bus.specs.Submit.{done}
 use Rattle.plain_bus.specs.Round.{Injection}
 use Rattle.plain_bus.specs.Calls.{Answer, isDone, bytesGiven, Outcome, start, submit, runRound, collect}
 use Rattle.plain_bus.specs.Register.{Register, newRegister, Update, updated, rejected, enter, read}

@@ -10,18 +10,17 @@ use Rattle.operation.specs.Rules.{oneOf, statuses, behaviours}
 use Rattle.operation.specs.declared.Operation.{Operation}
 use Rattle.decoder.specs.Front.{front}
 use Rattle.decoder.specs.Stream.{Item, operation, fault, itemsOf}
-use Rattle.decoder.specs.declared.Front.{Front}
 use Rattle.decoder.specs.declared.Front.the-variants.{Found}
 use Rattle.plain_bus.specs.Kinds.{isTransmit}
 use Rattle.plain_bus.specs.Held.{Frame, Node, Bus, maxPending, queueCapacity, lastRound, isOff, nodeAt}
 
 -- the bytes are those of one operation, which meets the content rules: else reading would not find it
-abbrev pub ReadsAs : Operation → List ℕ → Type 0
-ReadsAs op bytes = front bytes ≡ Found op (length bytes)
+abbrev pub ReadsWhole : Operation → List ℕ → Type 0
+ReadsWhole op bytes = front bytes ≡ Found op (length bytes)
 
 pub record ValidFrame (f : Frame) : Type 0 where
   pub transmit : isTransmit (f .op) ≡ true
-  pub reads : ReadsAs (f .op) (f .bytes)
+  pub reads : ReadsWhole (f .op) (f .bytes)
 
 -- the frames are valid, their acceptance rounds do not fall, and none is below `low` or above `now`
 abbrev pub ValidFrames : ℕ → ℕ → List Frame → Type 0
