@@ -22,7 +22,8 @@ use Rattle.decoder.proofs.Found.{front-is}
 use Rattle.plain_bus.specs.Valid.{ReadsWhole}
 
 -- bytes of the length that they state, whose fields make an operation of that length, read as it
-reads : (s : List ℕ) (op : Operation) (least : ℕ) → 8 ≤ length s → statedLength s ≡ length s → shapeOf (kindOf (numberAt 4 s 0)) s ≡ holds least op
+reads : (s : List ℕ) (op : Operation) (least : ℕ) → 8 ≤ length s → statedLength s ≡ length s
+    → shapeOf (kindOf (numberAt 4 s 0)) s ≡ holds least op
     → least ≤ length s → length s ≡ lengthOf op → legal op ≡ true → ReadsWhole op s
 unfolding decode judge verdict
 reads s op least h stated shape enough sized lawful =
@@ -31,8 +32,10 @@ reads s op least h stated shape enough sized lawful =
     ∙ rw (shape, le-leb least (length s) enough, eq-eqb (length s) (lengthOf op) sized, lawful)
 
 -- where an operation's fields are read back, so is the operation
-written : (op : Operation) (payload : List ℕ) (least : ℕ) → legal op ≡ true → length payload ≡ dataLength op → dataLength op < 65_536
-    → codeOf op < 4_294_967_296 → shapeOf (kindOf (codeOf op)) (encode op payload) ≡ holds least op → least ≤ lengthOf op → ReadsWhole op (encode op payload)
+written : (op : Operation) (payload : List ℕ) (least : ℕ) → legal op ≡ true → length payload ≡ dataLength op
+    → dataLength op < 65_536
+    → codeOf op < 4_294_967_296 → shapeOf (kindOf (codeOf op)) (encode op payload) ≡ holds least op
+    → least ≤ lengthOf op → ReadsWhole op (encode op payload)
 unfolding header encode
 written op payload least l p small c h e =
     let size : length (encode op payload) ≡ lengthOf op = encode-length op payload l ∙ ap (λ (n : ℕ). headLength op + n) p in
@@ -61,7 +64,8 @@ reads-bus-error id code flag sender l =
     written (BusError id code flag sender) [] 15 l refl (lit< tt) (lit< tt)
     (ap (λ (x : ℕ). holds 15 (BusError x code flag sender)) (number-back 4 id (omega arith))) (lit≤ tt)
 
-pub reads-format-error : (bytes : List ℕ) → length bytes < 65_536 → ReadsWhole (FormatError (length bytes)) (encode (FormatError (length bytes)) bytes)
+pub reads-format-error : (bytes : List ℕ) → length bytes < 65_536
+    → ReadsWhole (FormatError (length bytes)) (encode (FormatError (length bytes)) bytes)
 unfolding header encode shapeOf legal rules allAfter
 reads-format-error bytes h =
     written (FormatError (length bytes)) bytes 10 refl refl h (lit< tt)

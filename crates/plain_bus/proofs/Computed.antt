@@ -12,12 +12,12 @@ use Rattle.plain_bus.specs.Round
 use Rattle.plain_bus.specs.Calls
 use Rattle.plain_bus.specs.Register
 use Rattle.plain_bus.specs.Session
-use Rattle.plain_bus.specs.Examples.{pendingCounts, queues, openIds, played, kept, reply, computed, expected, table, W1toW10}
+use Rattle.plain_bus.specs.Examples.{pendingCounts, queues, openIds, reply, computed, expected, table, W1toW10}
 use Rattle.plain_bus.specs.Cases.{cases, CasesHold, fullQueue, FullQueueHolds}
 
 -- every definition, opened by naming this one
 rules-open : Unit {0}
-unfolding header encode allAfter oneOf fdLength rules legal shapeOf verdict judge decode front itemsUpTo itemsOf Held.eachNode Held.everyNode Submit.takeTransmit Submit.configure Submit.setStatus Submit.takeWakeup Submit.answerFormatError Submit.takeItem Submit.takeItems Order.rank Order.goesBefore Order.entriesOf Order.entriesFrom Order.better Order.firstOf Order.winner Round.newsFor Round.without Round.losers Round.lostNotices Round.drops Round.told Round.stay Round.owed Round.settle Round.afterRound Round.age Calls.start Calls.submit Calls.wrongInjection Calls.arbitrate Calls.runRound Calls.collect Register.noneAbove Register.validRegister Register.updates Register.openId Register.withOff Register.noteStatus Register.enterItem Register.enter Register.isOpen Register.remove Register.closeId Register.readItem Register.read Session.call Session.calls Session.answers Session.keep Session.followUp Session.opening Session.after Session.run pendingCounts queues openIds played kept reply computed expected
+unfolding header encode allAfter oneOf fdLength rules legal shapeOf verdict judge decode front itemsUpTo itemsOf Held.eachNode Held.everyNode Submit.takeTransmit Submit.configure Submit.setStatus Submit.takeWakeup Submit.answerFormatError Submit.takeItem Submit.takeItems Order.rank Order.goesBefore Order.entriesOf Order.entriesFrom Order.better Order.firstOf Order.winner Round.newsFor Round.without Round.losers Round.lostNotices Round.drops Round.told Round.stay Round.owed Round.settle Round.afterRound Round.age Calls.start Calls.submit Calls.wrongInjection Calls.arbitrate Calls.runRound Calls.collect Register.noneAbove Register.validRegister Register.updates Register.openId Register.withOff Register.noteStatus Register.enterItem Register.enter Register.isOpen Register.remove Register.closeId Register.readItem Register.read Session.call Session.calls Session.answers Session.keep Session.followUp Session.opening Session.after Session.run pendingCounts queues openIds reply computed expected
 rules-open = tt
 
 pub w1-to-w10 : W1toW10

@@ -26,12 +26,14 @@ count-none [] h = refl
 count-none (x ∷ l) h = absurd (omega (arith, count-all (x ∷ l)))
 
 -- taking out the first equal ID takes one away
-pub count-remove : (p : ℕ → Bool) (id : ℕ) (l : List ℕ) → isOpen id l ≡ true → cond (p id) 1 0 + count p (remove id l) ≡ count p l
+pub count-remove : (p : ℕ → Bool) (id : ℕ) (l : List ℕ) → isOpen id l ≡ true
+    → cond (p id) 1 0 + count p (remove id l) ≡ count p l
 unfolding count isOpen remove
 count-remove p id [] h = let z : _≡_ {A = ℕ} 0 1 = cc in absurd (omega arith)
 count-remove p id (x ∷ l) h = go (eqb x id) refl h (count-remove p id l)
   where
-    go : (t : Bool) → eqb x id ≡ t → (t || isOpen id l) ≡ true → (isOpen id l ≡ true → cond (p id) 1 0 + count p (remove id l) ≡ count p l)
+    go : (t : Bool) → eqb x id ≡ t → (t || isOpen id l) ≡ true
+        → (isOpen id l ≡ true → cond (p id) 1 0 + count p (remove id l) ≡ count p l)
         → cond (p id) 1 0 + count p (cond t l (x ∷ remove id l)) ≡ cond (p x) 1 0 + count p l
     go true e h f = rw (eqb-true x id e)
     go false e h f = let g : cond (p id) 1 0 + count p (remove id l) ≡ count p l = f h in omega arith
@@ -42,7 +44,8 @@ unfolding count isOpen
 open-counted id [] h = absurd (omega arith)
 open-counted id (x ∷ l) h = go (eqb x id) h (open-counted id l)
   where
-    go : (t : Bool) → 1 ≤ cond t 1 0 + count (λ x. eqb x id) l → (1 ≤ count (λ x. eqb x id) l → isOpen id l ≡ true) → (t || isOpen id l) ≡ true
+    go : (t : Bool) → 1 ≤ cond t 1 0 + count (λ x. eqb x id) l → (1 ≤ count (λ x. eqb x id) l → isOpen id l ≡ true)
+        → (t || isOpen id l) ≡ true
     go true h f = refl
     go false h f = f (omega arith)
 
@@ -52,7 +55,8 @@ unfolding count noneAbove
 none-above m [] h = refl
 none-above m (x ∷ l) h = go (leb x m) h (none-above m l)
   where
-    go : (t : Bool) → cond (not t) 1 0 + count (λ x. not (leb x m)) l ≡ 0 → (count (λ x. not (leb x m)) l ≡ 0 → noneAbove m l ≡ true)
+    go : (t : Bool) → cond (not t) 1 0 + count (λ x. not (leb x m)) l ≡ 0
+        → (count (λ x. not (leb x m)) l ≡ 0 → noneAbove m l ≡ true)
         → (t && noneAbove m l) ≡ true
     go true h f = f (omega arith)
     go false h f = absurd (omega arith)

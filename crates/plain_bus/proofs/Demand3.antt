@@ -21,11 +21,11 @@ use Rattle.plain_bus.proofs.Winner.{winner-pending}
 use Rattle.plain_bus.proofs.Tally.{Tally, register-valid, change-tally}
 use Rattle.plain_bus.proofs.Steps.{Stepped, bus-of, never, fails-stay, turnsOff, item-step, collect-step, round-step}
 use Rattle.plain_bus.proofs.Outcomes.{Came, turnedDown, idled, took, carriedOut, handedOver, came}
-use Rattle.plain_bus.proofs.Kept.{by-number, Sound, step-sound, start-node, start-sound}
+use Rattle.plain_bus.proofs.Kept.{by-number, ValidWhole, step-whole, Started, started, start-node, start-valid}
 
 -- the bus is sound, and each node tallies with its register
 pub record Agree (b : Bus) (rs : List Register) : Type 0 where
-  pub sound : Sound b
+  pub bus : ValidWhole b
   pub size : length rs ≡ length (b .nodes)
   pub each : (j : ℕ) → j < length (b .nodes) → Tally (nodeAt b j) (getD rs j newRegister)
 
@@ -39,13 +39,13 @@ record Done (b : Bus) (rs : List Register) (k : ℕ) (u : Update) : Type 0 where
 step-agrees : (b b′ : Bus) (k later : ℕ) (clears : Bool) (call : Register → Update) (rs : List Register)
     → Stepped b b′ k later clears call → k < length (b .nodes) → Agree b rs → Done b′ rs k (call (getD rs k newRegister))
 step-agrees b b′ k later clears call rs s h a =
-    let t = change-tally (s .own) (a .sound .valid .each k h) (a .sound .whole k h) (a .each k h) in
+    let t = change-tally (s .own) (a .bus .valid .each k h) (a .bus .whole k h) (a .each k h) in
     record {
       register = t .0;
       result = t .1;
       agree =
           record {
-            sound = step-sound b b′ k later clears call s h (a .sound);
+            bus = step-whole b b′ k later clears call s h (a .bus);
             size = length-set rs k (t .0) ∙ a .size ∙ sym (s .size);
             each = λ j l. each (t .0) (t .2) j (rw (s .size) at l);
           };
@@ -57,12 +57,13 @@ step-agrees b b′ k later clears call rs s h a =
         by-number (λ j. j < length (b .nodes) → Tally (nodeAt b′ j) (getD (set rs k x) j newRegister)) k
         (λ l. rw (getD-set-same rs k x newRegister (omega (arith, a .size))) t)
         (λ j n l.
-        let o = change-tally (s .others j l n) (a .sound .valid .each j l) (a .sound .whole j l) (a .each j l) in
+        let o = change-tally (s .others j l n) (a .bus .valid .each j l) (a .bus .whole j l) (a .each j l) in
         let same : o .0 ≡ getD rs j newRegister = cc (o .1) in
         rw (getD-set-other rs k j x newRegister n, ← same) (o .2))
 
 -- a submitted buffer, item by item
-items-agree : (k : ℕ) (is : List Item) (b b′ : Bus) (rs : List Register) → ValidItems is → k < length (b .nodes) → Agree b rs
+items-agree : (k : ℕ) (is : List Item) (b b′ : Bus) (rs : List Register) → ValidItems is → k < length (b .nodes)
+    → Agree b rs
     → takeItems k is (done b) ≡ done b′ → Done b′ rs k (updates enterItem is (updated (getD rs k newRegister)))
 unfolding takeItems updates
 items-agree k [] b b′ rs v h a e =
@@ -71,9 +72,9 @@ items-agree k [] b b′ rs v h a e =
       result = refl;
       agree = rw set-getD (subst (λ (c : Bus). Agree c rs) (bus-of e) a);
     }
-items-agree k (i ∷ is) b b′ rs v h a e = go (takeItem k b i) refl e (λ c qs. items-agree k is c b′ qs (v .1))
+items-agree k (i ∷ is) b b′ rs v h a e = go (takeItem b k i) refl e (λ c qs. items-agree k is c b′ qs (v .1))
   where
-    go : (s : Step) → takeItem k b i ≡ s → takeItems k is s ≡ done b′
+    go : (s : Step) → takeItem b k i ≡ s → takeItems k is s ≡ done b′
         → ((c : Bus) (qs : List Register) → k < length (c .nodes) → Agree c qs → takeItems k is (done c) ≡ done b′
         → Done b′ qs k (updates enterItem is (updated (getD qs k newRegister))))
         → Done b′ rs k (updates enterItem is (enterItem (getD rs k newRegister) i))
@@ -112,11 +113,11 @@ outcome-good w (collection k room) o (turnedDown r) g = g
 outcome-good w c o (idled e q) g = g
 outcome-good w c o (took k buffer b′ h e) g =
     let r = items-agree k (itemsOf buffer) (w .bus) b′ (w .registers .each) (items-valid buffer) h (g .agree) e in
-    let v = register-valid (g .agree .sound .valid .each k h) (g .agree .each k h) in
+    let v = register-valid (g .agree .bus .valid .each k h) (g .agree .each k h) in
     keep-good b′ (w .registers) k _ (g .allDone) (record { register = r .register; result = rw v (r .result); agree = r .agree })
 outcome-good w c o (carriedOut e v l q room last) g =
     let b = w .bus in
-    let s = round-step b e v (g .agree .sound .valid) l q room last in
+    let s = round-step b e v (g .agree .bus .valid) l q room last in
     let r = step-agrees b (afterRound e v b) (v .owner) (b .round + 1) false updated (w .registers .each) s (winner-pending b v q .attached) (g .agree) in
     let same : r .register ≡ getD (w .registers .each) (v .owner) newRegister = cc (r .result) in
     record { agree = rw (same, set-getD) at (r .agree); allDone = g .allDone }
@@ -135,20 +136,21 @@ new-tally : Tally newNode newRegister
 unfolding count pendingIds closingIds
 new-tally = record { counts = λ p. rw items-nil; flag = refl; shut = λ q. refl }
 
-pub opening-good : (n : ℕ) (b : Bus) → start n ≡ done b → Good (opening b)
+pub opening-good : {n : ℕ} (b : Bus) → Started n b → Good (opening b)
 unfolding opening
-opening-good n b e =
+opening-good b s =
     record {
       agree =
           record {
-            sound = start-sound n b e;
+            bus = start-valid s;
             size = length-replicate (length (b .nodes)) newRegister;
-            each = λ j h. rw (getD-replicate (length (b .nodes)) j newRegister newRegister h, start-node n b e j h) new-tally;
+            each = λ j h. rw (getD-replicate (length (b .nodes)) j newRegister newRegister h, start-node s j h) new-tally;
           };
       allDone = refl;
     }
 
 pub demand3 : Demand3
-demand3 n b e cs =
-    let g : Good (run cs (opening b)) = run-good cs (opening b) (opening-good n b e) in
+demand3 n e cs =
+    let b = start n .bus in
+    let g : Good (run cs (opening (start n .bus))) = run-good cs (opening b) (opening-good b (started n e)) in
     record { allDone = g .allDone; counts = λ k h id. g .agree .each k h .counts (λ x. eqb x id) }

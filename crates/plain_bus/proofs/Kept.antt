@@ -14,7 +14,7 @@ use Rattle.plain_bus.specs.Held.{Bus, newNode, newBus, nodeAt}
 use Rattle.plain_bus.specs.Refusal.{badNodeCount}
 use Rattle.plain_bus.specs.Submit.{Step, done, fails, takeItem, takeItems}
 use Rattle.plain_bus.specs.Round.{afterRound}
-use Rattle.plain_bus.specs.Calls.{Outcome, start}
+use Rattle.plain_bus.specs.Calls.{accepted, Outcome, gives, refuses, start}
 use Rattle.plain_bus.specs.Valid.{ValidNode, Valid, Whole, WholeQueues}
 use Rattle.plain_bus.specs.Register.{Register, Update, updated}
 use Rattle.plain_bus.specs.Session.{Call, call, calls}
@@ -34,9 +34,9 @@ module _ (P : Bus → Type 0) (valid : (b : Bus) → P b → Valid b)
       → takeItems k is (done b) ≡ done b′ → P b′
   unfolding takeItems
   items-keep k [] b b′ v h p e = subst P (bus-of e) p
-  items-keep k (i ∷ is) b b′ v h p e = go (takeItem k b i) refl e (λ c. items-keep k is c b′ (v .1))
+  items-keep k (i ∷ is) b b′ v h p e = go (takeItem b k i) refl e (λ c. items-keep k is c b′ (v .1))
     where
-      go : (s : Step) → takeItem k b i ≡ s → takeItems k is s ≡ done b′
+      go : (s : Step) → takeItem b k i ≡ s → takeItems k is s ≡ done b′
           → ((c : Bus) → k < length (c .nodes) → P c → takeItems k is (done c) ≡ done b′ → P b′) → P b′
       go (fails r) q e rest = never (sym (fails-stay k is r) ∙ e)
       go (done c) q e rest =
@@ -93,13 +93,13 @@ valid-kept = call-keeps Valid (λ b v. v) step-valid
 -- ---- whole queues
 
 -- valid, and its queues whole
-pub record Sound (b : Bus) : Type 0 where
+pub record ValidWhole (b : Bus) : Type 0 where
   pub valid : Valid b
   pub whole : WholeQueues b
 
-pub step-sound : (b b′ : Bus) (k later : ℕ) (clears : Bool) (call : Register → Update) → Stepped b b′ k later clears call
-    → k < length (b .nodes) → Sound b → Sound b′
-step-sound b b′ k later clears call s h p =
+pub step-whole : (b b′ : Bus) (k later : ℕ) (clears : Bool) (call : Register → Update) → Stepped b b′ k later clears call
+    → k < length (b .nodes) → ValidWhole b → ValidWhole b′
+step-whole b b′ k later clears call s h p =
     record { valid = step-valid b b′ k later clears call s h (p .valid); whole = λ j l. each j (rw (s .size) at l) }
   where
     each : (j : ℕ) → j < length (b .nodes) → Whole (nodeAt b′ j .queue)
@@ -110,7 +110,7 @@ step-sound b b′ k later clears call s h p =
 
 -- every call keeps the queues of a valid bus whole
 pub whole-kept : (b : Bus) (c : Call) → Valid b → WholeQueues b → WholeQueues (call b c .bus)
-whole-kept b c v w = call-keeps Sound (λ b p. p .valid) step-sound b c (record { valid = v; whole = w }) .whole
+whole-kept b c v w = call-keeps ValidWhole (λ b p. p .valid) step-whole b c (record { valid = v; whole = w }) .whole
 
 -- ---- the start
 
@@ -120,23 +120,24 @@ pub record Started (n : ℕ) (b : Bus) : Type 0 where
   pub least : 2 ≤ n
   pub most : n ≤ 8
 
-pub started : (n : ℕ) (b : Bus) → start n ≡ done b → Started n b
+pub started : (n : ℕ) → start n .answer ≡ accepted → Started n (start n .bus)
 unfolding start
-started n b e = go (leb 2 n) refl (leb n 8) refl e
+started n e = go (leb 2 n) refl (leb n 8) refl e
   where
-    go : (t : Bool) → leb 2 n ≡ t → (u : Bool) → leb n 8 ≡ u → cond (t && u) (done (newBus n)) (fails badNodeCount) ≡ done b
-        → Started n b
-    go true qt true qu e = record { bus = bus-of e; least = leb-true 2 n qt; most = leb-true n 8 qu }
-    go true qt false qu e = never e
-    go false qt u qu e = never e
+    Out : Outcome → Type 0
+    Out o = o .answer ≡ accepted → Started n (o .bus)
 
-start-size : (n : ℕ) (b : Bus) → Started n b → n ≡ length (b .nodes)
-start-size n b s = sym (length-replicate n newNode) ∙ ap (λ (c : Bus). length (c .nodes)) (s .bus)
+    go : (t : Bool) → leb 2 n ≡ t → (u : Bool) → leb n 8 ≡ u
+        → Out (cond (t && u) (gives accepted (newBus n)) (refuses badNodeCount (newBus 0)))
+    go true qt true qu = λ e. record { bus = refl; least = leb-true 2 n qt; most = leb-true n 8 qu }
+    go true qt false qu = λ e. let z : _≡_ {A = ℕ} 0 1 = cc in absurd (omega arith)
+    go false qt u qu = λ e. let z : _≡_ {A = ℕ} 0 1 = cc in absurd (omega arith)
 
-pub start-node : (n : ℕ) (b : Bus) → start n ≡ done b → (k : ℕ) → k < length (b .nodes) → nodeAt b k ≡ newNode
-start-node n b e k h =
-    let s = started n b e in
-    rw (← s .bus) (getD-replicate n k newNode newNode (omega (arith, start-size n b s)))
+start-size : {n : ℕ} {b : Bus} → Started n b → n ≡ length (b .nodes)
+start-size {n} s = sym (length-replicate n newNode) ∙ ap (λ (c : Bus). length (c .nodes)) (s .bus)
+
+pub start-node : {n : ℕ} {b : Bus} → Started n b → (k : ℕ) → k < length (b .nodes) → nodeAt b k ≡ newNode
+start-node {n} s k h = rw (← s .bus) (getD-replicate n k newNode newNode (omega (arith, start-size s)))
 
 new-valid : ValidNode 0 newNode
 unfolding oneOf
@@ -153,17 +154,16 @@ new-valid =
     }
 
 -- an accepted start is valid, and its queues are whole
-pub start-sound : (n : ℕ) (b : Bus) → start n ≡ done b → Sound b
-start-sound n b e =
-    let s = started n b e in
+pub start-valid : {n : ℕ} {b : Bus} → Started n b → ValidWhole b
+start-valid {n} {b} s =
     let first : 0 ≡ b .round = ap (λ (c : Bus). c .round) (s .bus) in
     record {
       valid =
           record {
-            least = omega (arith, start-size n b s, s .least);
-            most = omega (arith, start-size n b s, s .most);
+            least = omega (arith, start-size s, s .least);
+            most = omega (arith, start-size s, s .most);
             round = omega arith;
-            each = λ k h. rw (← first, start-node n b e k h) new-valid;
+            each = λ k h. rw (← first, start-node s k h) new-valid;
           };
-      whole = λ k h. rw (start-node n b e k h) whole-nil;
+      whole = λ k h. rw (start-node s k h) whole-nil;
     }

@@ -14,7 +14,8 @@ use Rattle.plain_bus.specs.Order.{Entry, rankOf, lowerOr, goesBefore}
 lower-irreflexive : (a : ℕ) {t : Bool} → t ≡ false → lowerOr a a t ≡ false
 lower-irreflexive a e = rw (le-ltb a a (omega arith), eq-eqb a a refl) e
 
-lower-transitive : (a b c : ℕ) (t u v : Bool) → lowerOr a b t ≡ true → lowerOr b c u ≡ true → (t ≡ true → u ≡ true → v ≡ true) → lowerOr a c v ≡ true
+lower-transitive : (a b c : ℕ) (t u v : Bool) → lowerOr a b t ≡ true → lowerOr b c u ≡ true
+    → (t ≡ true → u ≡ true → v ≡ true) → lowerOr a c v ≡ true
 lower-transitive a b c t u v p q r = go (ltb a b) refl (eqb a b) refl (ltb b c) refl (eqb b c) refl p q
   where
     lower : a < c → lowerOr a c v ≡ true
@@ -35,7 +36,8 @@ lower-transitive a b c t u v p q r = go (ltb a b) refl (eqb a b) refl (ltb b c) 
 lower-total : (a b : ℕ) (t u : Bool) → lowerOr a b t ≡ false → lowerOr b a u ≡ false → (a ≡ b) × (t ≡ false) × (u ≡ false)
 lower-total a b t u p q = go (ltb a b) refl (ltb b a) refl p q
   where
-    go : (x : Bool) → ltb a b ≡ x → (y : Bool) → ltb b a ≡ y → (x || eqb a b && t) ≡ false → (y || eqb b a && u) ≡ false → (a ≡ b) × (t ≡ false) × (u ≡ false)
+    go : (x : Bool) → ltb a b ≡ x → (y : Bool) → ltb b a ≡ y → (x || eqb a b && t) ≡ false → (y || eqb b a && u) ≡ false
+        → (a ≡ b) × (t ≡ false) × (u ≡ false)
     go true qx y qy p q = let z : _≡_ {A = ℕ} 0 1 = cc in absurd (omega arith)
     go false qx true qy p q = let z : _≡_ {A = ℕ} 0 1 = cc in absurd (omega arith)
     go false qx false qy p q =

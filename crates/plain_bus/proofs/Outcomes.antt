@@ -42,7 +42,8 @@ came b (submission k buffer) =
 came b (round e) = go (wrongInjection b e) refl (winner b) refl
   where
     won : (w : Entry) → wrongInjection b e ≡ false → winner b ≡ wins w
-        → (t : Bool) → everyNode (λ j d. hasRoom d (owed e w j d)) 0 (b .nodes) ≡ t → (u : Bool) → leb lastRound (b .round) ≡ u
+        → (t : Bool) → everyNode (λ j d. hasRoom d (owed e w j d)) 0 (b .nodes) ≡ t → (u : Bool)
+        → leb lastRound (b .round) ≡ u
         → Came b (round e)
         (cond (not t) (refuses queueFull b)
         (cond u (refuses roundsUsedUp b)

@@ -95,18 +95,21 @@ error-legal id code t u h e = rw (le-leb id maxExtendedId h, e) (go t u)
     go false true = refl
     go false false = refl
 
-says-news : (e : Injection) (w : Entry) (j : ℕ) (d : Node) → LegalInjection e → ValidFrame (w .frame) → (eqb j (w .owner) ≡ true → isOff d ≡ false)
+says-news : (e : Injection) (w : Entry) (j : ℕ) (d : Node) → LegalInjection e → ValidFrame (w .frame)
+    → (eqb j (w .owner) ≡ true → isOff d ≡ false)
     → Says (newsFor e w j d) (cond (eqb j (w .owner)) (winnerId w ∷ []) [])
 unfolding newsFor
 says-news noError w j d l v on = go (eqb j (w .owner)) (isOff d)
   where
-    go : (own off : Bool) → Says (cond own (encode (Confirm (winnerId w)) []) (cond off [] (w .frame .bytes))) (cond own (winnerId w ∷ []) [])
+    go : (own off : Bool)
+        → Says (cond own (encode (Confirm (winnerId w)) []) (cond off [] (w .frame .bytes))) (cond own (winnerId w ∷ []) [])
     go true off = says-one (reads-confirm (winnerId w) (read-id (w .frame .bytes) (v .reads)))
     go false true = says-nil
     go false false = rw (transmit-quiet (w .frame .op) (v .transmit)) at (says-one (v .reads))
 says-news (injected code detector) w j d l v on = go (eqb j (w .owner)) (isOff d) (eqb j detector) on
   where
-    error : (own first : Bool) → Says (encode (errorFor w code first own) []) (cond (closes (errorFor w code first own)) (winnerId w ∷ []) [])
+    error : (own first : Bool)
+        → Says (encode (errorFor w code first own) []) (cond (closes (errorFor w code first own)) (winnerId w ∷ []) [])
     error own first = says-one (reads-bus-error (winnerId w) code _ _ (error-legal (winnerId w) code first own (read-id (w .frame .bytes) (v .reads)) l))
 
     go : (own off first : Bool) → (own ≡ true → off ≡ false)
@@ -122,7 +125,9 @@ says-lost low now [] v = says-nil
 says-lost low now (f ∷ fs) v = says-append (says-one (reads-lost (idOf (f .op)) (read-id (f .bytes) (v .0 .reads)))) (says-lost (f .accepted) now fs (v .3))
 
 -- the sender's part closes the winner, and Arbitration Lost each frame that is told
-pub says-owed : (e : Injection) (w : Entry) (j : ℕ) (d : Node) (low now : ℕ) → LegalInjection e → ValidFrame (w .frame) → (eqb j (w .owner) ≡ true → isOff d ≡ false)
-    → ValidFrames low now (told w j d) → Says (owed e w j d) (cond (eqb j (w .owner)) (winnerId w ∷ []) [] ++ pendingIds (told w j d))
+pub says-owed : (e : Injection) (w : Entry) (j : ℕ) (d : Node) (low now : ℕ) → LegalInjection e → ValidFrame (w .frame)
+    → (eqb j (w .owner) ≡ true → isOff d ≡ false)
+    → ValidFrames low now (told w j d)
+    → Says (owed e w j d) (cond (eqb j (w .owner)) (winnerId w ∷ []) [] ++ pendingIds (told w j d))
 unfolding owed
 says-owed e w j d low now l v on f = says-append (says-news e w j d l v on) (says-lost low now (told w j d) f)

@@ -26,11 +26,13 @@ pub open-most : maxOpen ≡ maxPending + queueCapacity / 12
 open-most = refl
 
 -- a 346th ID is refused, and none before it
-pub full-at-345 : (r : Register) (id : ℕ) → r .off ≡ false → length (r .opened) ≡ 345 → openId r id ≡ rejected registerFull
+pub full-at-345 : (r : Register) (id : ℕ) → r .off ≡ false → length (r .opened) ≡ 345
+    → openId r id ≡ rejected registerFull
 unfolding openId
 full-at-345 r id o l = rw (o, le-leb maxOpen (length (r .opened)) (omega arith))
 
-pub room-below-345 : (r : Register) (id : ℕ) → r .off ≡ false → length (r .opened) < 345 → openId r id ≡ updated (withOpened r (r .opened ++ id ∷ []))
+pub room-below-345 : (r : Register) (id : ℕ) → r .off ≡ false → length (r .opened) < 345
+    → openId r id ≡ updated (withOpened r (r .opened ++ id ∷ []))
 unfolding openId
 room-below-345 r id o l = rw (o, lt-leb maxOpen (length (r .opened)) l)
 
@@ -79,7 +81,8 @@ unfolding noneAbove remove
 none-above-remove m id [] e = refl
 none-above-remove m id (y ∷ l) e = go (eqb y id) (both (leb y m) _ e) (none-above-remove m id l)
   where
-    go : (t : Bool) → (leb y m ≡ true) × (noneAbove m l ≡ true) → (noneAbove m l ≡ true → noneAbove m (remove id l) ≡ true) → noneAbove m (cond t l (y ∷ remove id l)) ≡ true
+    go : (t : Bool) → (leb y m ≡ true) × (noneAbove m l ≡ true)
+        → (noneAbove m l ≡ true → noneAbove m (remove id l) ≡ true) → noneAbove m (cond t l (y ∷ remove id l)) ≡ true
     go true b f = b .1
     go false b f = rw (b .0) (f (b .1))
 
@@ -132,7 +135,8 @@ read-fits : (r : Register) (i : Item) → ValidItem i → Fits r → FitsAfter (
 unfolding readItem closeId
 read-fits r (operation op bytes) v f = go (closes op) (isOpen (idOf op) (r .opened))
   where
-    go : (t u : Bool) → FitsAfter (cond t (cond u (updated (withOpened r (remove (idOf op) (r .opened)))) (rejected registerDiffers)) (updated r))
+    go : (t u : Bool)
+        → FitsAfter (cond t (cond u (updated (withOpened r (remove (idOf op) (r .opened)))) (rejected registerDiffers)) (updated r))
     go true true = record {
       few = omega (arith, length-remove (idOf op) (r .opened), f .few);
       low = none-above-remove maxExtendedId (idOf op) (r .opened) (f .low);
@@ -142,7 +146,8 @@ read-fits r (operation op bytes) v f = go (closes op) (isOpen (idOf op) (r .open
     go false u = f
 read-fits r (fault number bytes) v f = f
 
-updates-fit : (step : Register → Item → Update) → ((r : Register) (i : Item) → ValidItem i → Fits r → FitsAfter (step r i))
+updates-fit : (step : Register → Item → Update)
+    → ((r : Register) (i : Item) → ValidItem i → Fits r → FitsAfter (step r i))
     → (is : List Item) (u : Update) → ValidItems is → FitsAfter u → FitsAfter (updates step is u)
 unfolding updates
 updates-fit step keeps [] u v f = f
@@ -150,10 +155,13 @@ updates-fit step keeps (i ∷ is) (rejected x) v f = tt
 updates-fit step keeps (i ∷ is) (updated r) v f = updates-fit step keeps is (step r i) (v .1) (keeps r i (v .0) f)
 
 kept-by : (step : Register → Item → Update) → ((r : Register) (i : Item) → ValidItem i → Fits r → FitsAfter (step r i))
-    → (r : Register) (buffer : List ℕ) {r′ : Register} → cond (validRegister r) (updates step (itemsOf buffer) (updated r)) (rejected invalid) ≡ updated r′ → validRegister r′ ≡ true
+    → (r : Register) (buffer : List ℕ) {r′ : Register}
+    → cond (validRegister r) (updates step (itemsOf buffer) (updated r)) (rejected invalid) ≡ updated r′
+    → validRegister r′ ≡ true
 kept-by step keeps r buffer {r′} e = go (validRegister r) refl e
   where
-    go : (t : Bool) → validRegister r ≡ t → cond t (updates step (itemsOf buffer) (updated r)) (rejected invalid) ≡ updated r′ → validRegister r′ ≡ true
+    go : (t : Bool) → validRegister r ≡ t
+        → cond t (updates step (itemsOf buffer) (updated r)) (rejected invalid) ≡ updated r′ → validRegister r′ ≡ true
     go true q e = valid-of r′ (subst FitsAfter e (updates-fit step keeps (itemsOf buffer) (updated r) (items-valid buffer) (fits-of r q)))
     go false q e = let z : _≡_ {A = ℕ} 0 1 = cc in absurd (omega arith)
 

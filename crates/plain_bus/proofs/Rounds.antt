@@ -57,7 +57,8 @@ pub record Carried (b : Bus) (e : Injection) (s i : ℕ) (t : Bool) (a : ℕ) (b
   pub aged : a ≡ age b entry
   pub bus : b′ ≡ afterRound e entry b
 
-carried-outcome : {b : Bus} {e : Injection} {o : Outcome} {s i a : ℕ} {t : Bool} → Came b (round e) o → o .answer ≡ carried s i t a
+carried-outcome : {b : Bus} {e : Injection} {o : Outcome} {s i a : ℕ} {t : Bool} → Came b (round e) o
+    → o .answer ≡ carried s i t a
     → Carried b e s i t a (o .bus)
 carried-outcome (turnedDown r) q = let z : _≡_ {A = ℕ} 0 1 = cc in absurd (omega arith)
 carried-outcome (idled e n) q = let z : _≡_ {A = ℕ} 0 1 = cc in absurd (omega arith)
@@ -95,7 +96,8 @@ module _ (b : Bus) (e : Injection) (w : Entry) where
   round-pending j h = ap (λ (d : Node). d .pending) (round-node j h)
 
   -- a node that discards has nothing pending any more, the sender's other frames included
-  pub discarded : (j : ℕ) → j < length (b .nodes) → discards (nodeAt b j) ≡ true → nodeAt (afterRound e w b) j .pending ≡ []
+  pub discarded : (j : ℕ) → j < length (b .nodes) → discards (nodeAt b j) ≡ true
+      → nodeAt (afterRound e w b) j .pending ≡ []
   unfolding stay drops
   discarded j h t = round-pending j h ∙ rw t
 

@@ -38,7 +38,8 @@ pub record Stepped (b b′ : Bus) (k later : ℕ) (clears : Bool) (call : Regist
   pub round : b′ .round ≡ later
   pub bound : b .round ≤ lastRound → later ≤ lastRound
   pub own : Change (b .round) later clears call (nodeAt b k) (nodeAt b′ k)
-  pub others : (j : ℕ) → j < length (b .nodes) → (j ≡ k → ⊥) → Change (b .round) later false updated (nodeAt b j) (nodeAt b′ j)
+  pub others : (j : ℕ) → j < length (b .nodes) → (j ≡ k → ⊥)
+      → Change (b .round) later false updated (nodeAt b j) (nodeAt b′ j)
 
 pub bus-of : {b b′ : Bus} → done b ≡ done b′ → b ≡ b′
 bus-of e = cc
@@ -47,7 +48,8 @@ pub never : {P : Type 0} {r : Refusal} {b : Bus} → fails r ≡ done b → P
 never e = let z : _≡_ {A = ℕ} 0 1 = cc in absurd (omega arith)
 
 -- the bus of a step that is done
-moved : {b b′ b″ : Bus} {k later : ℕ} {clears : Bool} {call : Register → Update} → done b′ ≡ done b″ → Stepped b b′ k later clears call
+moved : {b b′ b″ : Bus} {k later : ℕ} {clears : Bool} {call : Register → Update} → done b′ ≡ done b″
+    → Stepped b b′ k later clears call
     → Stepped b b″ k later clears call
 moved {b} {k = k} {later = later} {clears = clears} {call = call} e s = subst (λ (y : Bus). Stepped b y k later clears call) (bus-of e) s
 
@@ -75,7 +77,8 @@ turnsOff (fault number bytes) = false
 
 module _ (b : Bus) (k : ℕ) (h : k < length (b .nodes)) where
   -- only node k is changed
-  node-step : {clears : Bool} {call : Register → Update} (d′ : Node) → Change (b .round) (b .round) clears call (nodeAt b k) d′
+  node-step : {clears : Bool} {call : Register → Update} (d′ : Node)
+      → Change (b .round) (b .round) clears call (nodeAt b k) d′
       → Stepped b (withNode b k d′) k (b .round) clears call
   node-step d′ c = record {
     size = length-set (b .nodes) k d′;
@@ -85,10 +88,12 @@ module _ (b : Bus) (k : ℕ) (h : k < length (b .nodes)) where
     others = λ j l n. rw (getD-set-other (b .nodes) k j d′ newNode n) still;
   }
 
-  same-step : {call : Register → Update} → Change (b .round) (b .round) false call (nodeAt b k) (nodeAt b k) → Stepped b b k (b .round) false call
+  same-step : {call : Register → Update} → Change (b .round) (b .round) false call (nodeAt b k) (nodeAt b k)
+      → Stepped b b k (b .round) false call
   same-step c = record { size = refl; round = refl; bound = λ l. l; own = c; others = λ j l n. still }
 
-  transmit-step : (op : Operation) (bytes : List ℕ) {b′ : Bus} → isTransmit op ≡ true → ReadsWhole op bytes → takeTransmit b k op bytes ≡ done b′
+  transmit-step : (op : Operation) (bytes : List ℕ) {b′ : Bus} → isTransmit op ≡ true → ReadsWhole op bytes
+      → takeTransmit b k op bytes ≡ done b′
       → Stepped b b′ k (b .round) false (λ x. openId x (idOf op))
   unfolding takeTransmit
   transmit-step op bytes {b′} t r e = go (isOff (nodeAt b k)) refl (leb maxPending (length (nodeAt b k .pending))) refl e
@@ -97,7 +102,8 @@ module _ (b : Bus) (k : ℕ) (h : k < length (b .nodes)) where
       f = record { op = op; bytes = bytes; accepted = b .round }
 
       go : (o : Bool) → isOff (nodeAt b k) ≡ o → (p : Bool) → leb maxPending (length (nodeAt b k .pending)) ≡ p
-          → cond o (done b) (cond p (fails fourPending) (done (withNode b k (accept (nodeAt b k) f)))) ≡ done b′ → Stepped b b′ k (b .round) false (λ x. openId x (idOf op))
+          → cond o (done b) (cond p (fails fourPending) (done (withNode b k (accept (nodeAt b k) f)))) ≡ done b′
+          → Stepped b b′ k (b .round) false (λ x. openId x (idOf op))
       go true qo p qp e = moved e (same-step (ignored (idOf op) qo))
       go false qo true qp e = never e
       go false qo false qp e =
@@ -109,22 +115,26 @@ module _ (b : Bus) (k : ℕ) (h : k < length (b .nodes)) where
   unfolding encode
   answer-long bytes = rw length-append (omega arith)
 
-  answer-step : (bytes : List ℕ) {b′ : Bus} → answerFormatError b k bytes ≡ done b′ → Stepped b b′ k (b .round) false updated
+  answer-step : (bytes : List ℕ) {b′ : Bus} → answerFormatError b k bytes ≡ done b′
+      → Stepped b b′ k (b .round) false updated
   unfolding answerFormatError
   answer-step bytes {b′} e = go (hasRoom (nodeAt b k) (formatError bytes)) refl e
     where
       go : (t : Bool) → hasRoom (nodeAt b k) (formatError bytes) ≡ t
-          → cond t (done (withNode b k (enqueue (nodeAt b k) (formatError bytes)))) (fails queueFull) ≡ done b′ → Stepped b b′ k (b .round) false updated
+          → cond t (done (withNode b k (enqueue (nodeAt b k) (formatError bytes)))) (fails queueFull) ≡ done b′
+          → Stepped b b′ k (b .round) false updated
       go false q e = never e
       go true q e =
           let room : length (nodeAt b k .queue) + length (formatError bytes) ≤ queueCapacity = leb-true _ queueCapacity q in
           moved e
           (node-step _ (answered (FormatError (length bytes)) (formatError bytes) (reads-format-error bytes (omega (arith, answer-long bytes))) refl room))
 
-  wakeup-change : (now j : ℕ) (d : Node) → hasRoom d (wakeupFor k j d) ≡ true → Change now now false updated d (enqueue d (wakeupFor k j d))
+  wakeup-change : (now j : ℕ) (d : Node) → hasRoom d (wakeupFor k j d) ≡ true
+      → Change now now false updated d (enqueue d (wakeupFor k j d))
   wakeup-change now j d r = go (eqb j k || isOff d) r
     where
-      go : (t : Bool) → hasRoom d (cond t [] (encode Wakeup [])) ≡ true → Change now now false updated d (enqueue d (cond t [] (encode Wakeup [])))
+      go : (t : Bool) → hasRoom d (cond t [] (encode Wakeup [])) ≡ true
+          → Change now now false updated d (enqueue d (cond t [] (encode Wakeup [])))
       go true r = subst (λ (q : List ℕ). Change now now false updated d (withQueue d q)) (sym (append-nil (d .queue))) still
       go false r = answered Wakeup (encode Wakeup []) reads-wakeup refl (leb-true _ queueCapacity r)
 
@@ -151,7 +161,8 @@ module _ (b : Bus) (k : ℕ) (h : k < length (b .nodes)) where
       })
 
   -- one item of a buffer, and its entry into the register
-  pub item-step : (i : Item) {b′ : Bus} → ValidItem i → takeItem k b i ≡ done b′ → Stepped b b′ k (b .round) (turnsOff i) (λ x. enterItem x i)
+  pub item-step : (i : Item) {b′ : Bus} → ValidItem i → takeItem b k i ≡ done b′
+      → Stepped b b′ k (b .round) (turnsOff i) (λ x. enterItem x i)
   unfolding takeItem enterItem
   item-step (operation (FormatError n) bytes) v e = moved e (same-step still)
   item-step (operation (CanTransmit id ide rtr dl) bytes) v e = transmit-step (CanTransmit id ide rtr dl) bytes refl v e
@@ -166,7 +177,8 @@ module _ (b : Bus) (k : ℕ) (h : k < length (b .nodes)) where
   item-step (operation Wakeup bytes) v e = wakeup-step e
   item-step (fault number bytes) v e = go (unanswered bytes) e
     where
-      go : {b′ : Bus} (t : Bool) → cond t (done b) (answerFormatError b k bytes) ≡ done b′ → Stepped b b′ k (b .round) false updated
+      go : {b′ : Bus} (t : Bool) → cond t (done b) (answerFormatError b k bytes) ≡ done b′
+          → Stepped b b′ k (b .round) false updated
       go true e = moved e (same-step still)
       go false e = answer-step bytes e
 
@@ -181,12 +193,14 @@ unfolding wrongInjection
 injection-legal b noError q = tt
 injection-legal b (injected code detector) q = go (oneOf code errorCodes) refl q
   where
-    go : (t : Bool) → oneOf code errorCodes ≡ t → (not t || not (attached b detector) || isOff (nodeAt b detector)) ≡ false → oneOf code errorCodes ≡ true
+    go : (t : Bool) → oneOf code errorCodes ≡ t
+        → (not t || not (attached b detector) || isOff (nodeAt b detector)) ≡ false → oneOf code errorCodes ≡ true
     go true e q = e
     go false e q = let z : _≡_ {A = ℕ} 0 1 = cc in absurd (omega arith)
 
 pub round-step : (b : Bus) (e : Injection) (w : Entry) → Valid b → wrongInjection b e ≡ false → winner b ≡ wins w
-    → everyNode (λ j d. hasRoom d (owed e w j d)) 0 (b .nodes) ≡ true → b .round < lastRound → Stepped b (afterRound e w b) (w .owner) (b .round + 1) false updated
+    → everyNode (λ j d. hasRoom d (owed e w j d)) 0 (b .nodes) ≡ true → b .round < lastRound
+    → Stepped b (afterRound e w b) (w .owner) (b .round + 1) false updated
 unfolding afterRound
 round-step b e w v l q room last = record {
   size = length-each (settle e w) 0 (b .nodes);
@@ -205,7 +219,8 @@ round-step b e w v l q room last = record {
     own : (j : ℕ) → eqb j (w .owner) ≡ true → Own w (nodeAt b j)
     own j e = let o : j ≡ w .owner = eqb-true j (w .owner) e in rw o (record { placed = s .placed; held = s .held })
 
-    at : (j : ℕ) → j < length (b .nodes) → Change (b .round) (b .round + 1) false updated (nodeAt b j) (getD (eachNode (settle e w) 0 (b .nodes)) j newNode)
+    at : (j : ℕ) → j < length (b .nodes)
+        → Change (b .round) (b .round + 1) false updated (nodeAt b j) (getD (eachNode (settle e w) 0 (b .nodes)) j newNode)
     at j h =
         rw (each-at (settle e w) (b .nodes) j h)
         (settled e w j (injection-legal b e l) f (own j) (leb-true _ queueCapacity (every-at (λ j d. hasRoom d (owed e w j d)) (b .nodes) room j h)))

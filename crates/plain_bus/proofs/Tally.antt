@@ -64,7 +64,8 @@ closings-low [] v = refl
 closings-low (fault number bytes ∷ is) v = closings-low is (v .1)
 closings-low (operation op bytes ∷ is) v = go (closes op) (closings-low is (v .1))
   where
-    go : (t : Bool) → count tooHigh (closingIds is) ≡ 0 → count tooHigh (cond t (idOf op ∷ closingIds is) (closingIds is)) ≡ 0
+    go : (t : Bool) → count tooHigh (closingIds is) ≡ 0
+        → count tooHigh (cond t (idOf op ∷ closingIds is) (closingIds is)) ≡ 0
     go true e = rw (le-leb (idOf op) maxExtendedId (read-id bytes (v .0)), e)
     go false e = e
 
@@ -86,12 +87,14 @@ register-valid {now} {d} {x} v t =
 abbrev pub Tallied : (Register → Update) → Node → Register → Type 0
 Tallied call d x = (x′ : Register) × (call x ≡ updated x′) × Tally d x′
 
-pending-join : (p : ℕ → Bool) (fs : List Frame) (f : Frame) → count p (pendingIds (fs ++ f ∷ [])) ≡ count p (pendingIds fs) + count p (idOf (f .op) ∷ [])
+pending-join : (p : ℕ → Bool) (fs : List Frame) (f : Frame)
+    → count p (pendingIds (fs ++ f ∷ [])) ≡ count p (pendingIds fs) + count p (idOf (f .op) ∷ [])
 unfolding pendingIds count
 pending-join p [] f = omega arith
 pending-join p (g ∷ fs) f = let h : count p (pendingIds (fs ++ f ∷ [])) ≡ count p (pendingIds fs) + count p (idOf (f .op) ∷ []) = pending-join p fs f in omega arith
 
-joined-tally : {now : ℕ} {d : Node} {x : Register} (f : Frame) → isOff d ≡ false → length (d .pending) < maxPending → ValidNode now d → Tally d x
+joined-tally : {now : ℕ} {d : Node} {x : Register} (f : Frame) → isOff d ≡ false → length (d .pending) < maxPending
+    → ValidNode now d → Tally d x
     → Tallied (λ y. openId y (idOf (f .op))) (accept d f) x
 unfolding openId
 joined-tally {now} {d} {x} f on few v t =
@@ -165,7 +168,8 @@ pending-on {now} {d} v h = go (isOff d) refl
     go false e = e
 
 -- reading takes out exactly the IDs that the items close
-read-all : (is : List Item) (x : Register) (rest : (ℕ → Bool) → ℕ) → ((p : ℕ → Bool) → count p (x .opened) ≡ rest p + count p (closingIds is))
+read-all : (is : List Item) (x : Register) (rest : (ℕ → Bool) → ℕ)
+    → ((p : ℕ → Bool) → count p (x .opened) ≡ rest p + count p (closingIds is))
     → (x′ : Register) × (updates readItem is (updated x) ≡ updated x′) × ((p : ℕ → Bool) → count p (x′ .opened) ≡ rest p) × (x′ .off ≡ x .off)
 unfolding updates readItem closingIds count closeId
 read-all [] x rest h = (x, refl, (λ p. omega (arith, h p)), refl)
@@ -178,7 +182,8 @@ read-all (operation op bytes ∷ is) x rest h = go (closes op) h (λ y g. read-a
     Out : Update → Bool → Type 0
     Out u o = (x′ : Register) × (updates readItem is u ≡ updated x′) × ((p : ℕ → Bool) → count p (x′ .opened) ≡ rest p) × (x′ .off ≡ o)
 
-    go : (t : Bool) → ((p : ℕ → Bool) → count p (x .opened) ≡ rest p + count p (cond t (id ∷ closingIds is) (closingIds is)))
+    go : (t : Bool)
+        → ((p : ℕ → Bool) → count p (x .opened) ≡ rest p + count p (cond t (id ∷ closingIds is) (closingIds is)))
         → ((y : Register) → ((p : ℕ → Bool) → count p (y .opened) ≡ rest p + count p (closingIds is)) → Out (updated y) (y .off))
         → Out (cond t (closeId x id) (updated x)) (x .off)
     go true h r =
@@ -186,7 +191,8 @@ read-all (operation op bytes ∷ is) x rest h = go (closes op) h (λ y g. read-a
         rw open′ (r (withOpened x (remove id (x .opened))) (λ p. omega (arith, h p, count-remove p id (x .opened) open′)))
     go false h r = r x h
 
-collected-tally : {now : ℕ} {d : Node} {x : Register} → ValidNode now d → Tally d x → Tallied (λ y. read y (d .queue)) (withQueue d []) x
+collected-tally : {now : ℕ} {d : Node} {x : Register} → ValidNode now d → Tally d x
+    → Tallied (λ y. read y (d .queue)) (withQueue d []) x
 unfolding read count closingIds
 collected-tally {now} {d} {x} v t =
     let r = read-all (itemsOf (d .queue)) x (λ p. count p (pendingIds (d .pending))) (t .counts) in (
@@ -201,7 +207,8 @@ collected-tally {now} {d} {x} v t =
     )
 
 -- every change keeps the tally, its register call being done
-pub change-tally : {now later : ℕ} {clears : Bool} {call : Register → Update} {d d′ : Node} {x : Register} → Change now later clears call d d′
+pub change-tally : {now later : ℕ} {clears : Bool} {call : Register → Update} {d d′ : Node} {x : Register}
+    → Change now later clears call d d′
     → ValidNode now d → Whole (d .queue) → Tally d x → Tallied call d′ x
 unfolding settle openId count
 change-tally {x = x} still v w t = (x, refl, t)
@@ -217,7 +224,8 @@ change-tally {now} {d = d} {x = x} (settled e s j l vf own room) v w t =
 change-tally collected v w t = collected-tally v t
 
 -- every change keeps the queue a sequence of whole operations
-pub change-whole : {now later : ℕ} {clears : Bool} {call : Register → Update} {d d′ : Node} → Change now later clears call d d′ → ValidNode now d → Whole (d .queue) → Whole (d′ .queue)
+pub change-whole : {now later : ℕ} {clears : Bool} {call : Register → Update} {d d′ : Node}
+    → Change now later clears call d d′ → ValidNode now d → Whole (d .queue) → Whole (d′ .queue)
 unfolding settle configure setStatus
 change-whole still v w = w
 change-whole (ignored id off) v w = w

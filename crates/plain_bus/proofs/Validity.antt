@@ -21,7 +21,8 @@ use Rattle.plain_bus.proofs.Changes.{Change, still, ignored, joined, co
 
 -- ---- pending frames
 
-frames-join : (low now : ℕ) (fs : List Frame) (f : Frame) → low ≤ now → f .accepted ≡ now → ValidFrame f → ValidFrames low now fs → ValidFrames low now (fs ++ f ∷ [])
+frames-join : (low now : ℕ) (fs : List Frame) (f : Frame) → low ≤ now → f .accepted ≡ now → ValidFrame f
+    → ValidFrames low now fs → ValidFrames low now (fs ++ f ∷ [])
 frames-join low now [] f l e v a = (v, omega arith, omega arith, tt)
 frames-join low now (g ∷ fs) f l e v a = (a .0, a .1, a .2, frames-join (g .accepted) now fs f (a .2) e v (a .3))
 
@@ -52,7 +53,8 @@ frame-at low now zero (g ∷ fs) f v h e = subst (λ (x : Frame). ValidFrame x �
 frame-at low now (suc i) (g ∷ fs) f v h e = frame-at (g .accepted) now i fs f (v .3) (omega arith) e
 
 -- a pending frame of a valid bus is valid, and was accepted at a round not above the present one
-pub pending-valid : (b : Bus) (w : Entry) → Valid b → Pending b w → ValidFrame (w .frame) × (w .frame .accepted ≤ b .round)
+pub pending-valid : (b : Bus) (w : Entry) → Valid b → Pending b w
+    → ValidFrame (w .frame) × (w .frame .accepted ≤ b .round)
 pending-valid b w v p =
     frame-at 0 (b .round) (w .position) (nodeAt b (w .owner) .pending) (w .frame) (v .each (w .owner) (p .attached) .frames)
     (p .placed) (p .held)
@@ -75,7 +77,8 @@ status-legal status e = passed _ e 0
 -- ---- each setter
 
 module _ {now : ℕ} {d : Node} (v : ValidNode now d) where
-  valid-status : (x : ℕ) → oneOf x statuses ≡ true → (eqb x busOff ≡ true → d .pending ≡ []) → ValidNode now (withStatus d x)
+  valid-status : (x : ℕ) → oneOf x statuses ≡ true → (eqb x busOff ≡ true → d .pending ≡ [])
+      → ValidNode now (withStatus d x)
   valid-status x e s = record {
     status = e;
     behaviour = v .behaviour;
@@ -111,7 +114,8 @@ module _ {now : ℕ} {d : Node} (v : ValidNode now d) where
     frames = v .frames;
   }
 
-  valid-pending : (later : ℕ) (x : List Frame) → length x ≤ maxPending → (isOff d ≡ true → x ≡ []) → ValidFrames 0 later x → ValidNode later (withPending d x)
+  valid-pending : (later : ℕ) (x : List Frame) → length x ≤ maxPending → (isOff d ≡ true → x ≡ [])
+      → ValidFrames 0 later x → ValidNode later (withPending d x)
   valid-pending later x l s e = record {
     status = v .status;
     behaviour = v .behaviour;
@@ -140,7 +144,8 @@ module _ {now : ℕ} {d : Node} (v : ValidNode now d) where
 
 -- ---- each change
 
-configured-valid : (now : ℕ) (d : Node) (kind value : ℕ) → legal (Configuration kind value) ≡ true → ValidNode now d → ValidNode now (configure d kind value)
+configured-valid : (now : ℕ) (d : Node) (kind value : ℕ) → legal (Configuration kind value) ≡ true → ValidNode now d
+    → ValidNode now (configure d kind value)
 unfolding configure
 configured-valid now d kind value l v = go (eqb kind 4) (setting-legal kind value l)
   where
@@ -161,7 +166,8 @@ cleared-valid v = record {
   frames = tt;
 }
 
-status-valid : (now : ℕ) (d : Node) (status : ℕ) → legal (Status status) ≡ true → ValidNode now d → ValidNode now (setStatus d status)
+status-valid : (now : ℕ) (d : Node) (status : ℕ) → legal (Status status) ≡ true → ValidNode now d
+    → ValidNode now (setStatus d status)
 unfolding setStatus
 status-valid now d status l v = go (eqb status busOff) refl
   where
@@ -199,7 +205,8 @@ told-valid now d w j v = go (drops w j d) (eqb j (w .owner))
     go true false = v .frames
 
 -- every change keeps a node valid
-pub change-valid : {now later : ℕ} {clears : Bool} {call : Register → Update} {d d′ : Node} → Change now later clears call d d′ → ValidNode now d → ValidNode later d′
+pub change-valid : {now later : ℕ} {clears : Bool} {call : Register → Update} {d d′ : Node}
+    → Change now later clears call d d′ → ValidNode now d → ValidNode later d′
 unfolding settle
 change-valid still v = v
 change-valid (ignored id o) v = v

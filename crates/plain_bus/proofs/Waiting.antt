@@ -51,7 +51,8 @@ joins-twice {now} {a} x y =
 -- ---- one step
 
 -- within a round number, a change leaves what is pending, or clears it, and adds what is accepted now
-change-joins : {now later : ℕ} {clears : Bool} {call : Register → Update} {d d′ : Node} → Change now later clears call d d′
+change-joins : {now later : ℕ} {clears : Bool} {call : Register → Update} {d d′ : Node}
+    → Change now later clears call d d′
     → later ≡ now → Joins now (cond clears [] (d .pending)) (d′ .pending)
 unfolding configure setStatus
 change-joins {d = d} still e = same-joins (d .pending)
@@ -76,7 +77,8 @@ change-joins {d = d} collected e = same-joins (d .pending)
 record Joined (b b′ : Bus) (k : ℕ) (clears : Bool) : Type 0 where
   size : length (b′ .nodes) ≡ length (b .nodes)
   round : b′ .round ≡ b .round
-  each : (j : ℕ) → j < length (b .nodes) → Joins (b .round) (cond (clears && eqb j k) [] (nodeAt b j .pending)) (nodeAt b′ j .pending)
+  each : (j : ℕ) → j < length (b .nodes)
+      → Joins (b .round) (cond (clears && eqb j k) [] (nodeAt b j .pending)) (nodeAt b′ j .pending)
 
 step-joined : {b b′ : Bus} {k : ℕ} {clears : Bool} {call : Register → Update} → Stepped b b′ k (b .round) clears call
     → Joined b b′ k clears
@@ -107,7 +109,8 @@ unfoldable pub anyTurnsOff : List Item → Bool
 anyTurnsOff [] = false
 anyTurnsOff (i ∷ is) = turnsOff i || anyTurnsOff is
 
-joined-twice : {a b c : Bus} {k : ℕ} (clears later : Bool) → Joined a b k clears → Joined b c k later → Joined a c k (clears || later)
+joined-twice : {a b c : Bus} {k : ℕ} (clears later : Bool) → Joined a b k clears → Joined b c k later
+    → Joined a c k (clears || later)
 joined-twice {a} {b} {c} {k} clears later s t =
     record {
       size = t .size ∙ s .size;
@@ -115,7 +118,8 @@ joined-twice {a} {b} {c} {k} clears later s t =
       each = λ j l. both j (eqb j k) clears later (s .each j l) (rw (s .round) at (t .each j (rw (s .size) l)));
     }
   where
-    both : (j : ℕ) (own clears later : Bool) → Joins (a .round) (cond (clears && own) [] (nodeAt a j .pending)) (nodeAt b j .pending)
+    both : (j : ℕ) (own clears later : Bool)
+        → Joins (a .round) (cond (clears && own) [] (nodeAt a j .pending)) (nodeAt b j .pending)
         → Joins (a .round) (cond (later && own) [] (nodeAt b j .pending)) (nodeAt c j .pending)
         → Joins (a .round) (cond ((clears || later) && own) [] (nodeAt a j .pending)) (nodeAt c j .pending)
     both j own true false x y = joins-twice x y
@@ -125,15 +129,16 @@ joined-twice {a} {b} {c} {k} clears later s t =
     both j true false true x y = y
     both j false false true x y = joins-twice x y
 
-items-joined : (k : ℕ) (is : List Item) (b b′ : Bus) → ValidItems is → k < length (b .nodes) → takeItems k is (done b) ≡ done b′
+items-joined : (k : ℕ) (is : List Item) (b b′ : Bus) → ValidItems is → k < length (b .nodes)
+    → takeItems k is (done b) ≡ done b′
     → Joined b b′ k (anyTurnsOff is)
 unfolding takeItems anyTurnsOff
 items-joined k [] b b′ v h e =
     subst (λ (y : Bus). Joined b y k false) (bus-of e)
     (record { size = refl; round = refl; each = λ j l. same-joins (nodeAt b j .pending) })
-items-joined k (i ∷ is) b b′ v h e = go (takeItem k b i) refl e (λ c. items-joined k is c b′ (v .1))
+items-joined k (i ∷ is) b b′ v h e = go (takeItem b k i) refl e (λ c. items-joined k is c b′ (v .1))
   where
-    go : (s : Step) → takeItem k b i ≡ s → takeItems k is s ≡ done b′
+    go : (s : Step) → takeItem b k i ≡ s → takeItems k is s ≡ done b′
         → ((c : Bus) → k < length (c .nodes) → takeItems k is (done c) ≡ done b′ → Joined c b′ k (anyTurnsOff is))
         → Joined b b′ k (turnsOff i || anyTurnsOff is)
     go (fails r) q e rest = never (sym (fails-stay k is r) ∙ e)

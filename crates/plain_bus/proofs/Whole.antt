@@ -32,7 +32,7 @@ fault-moves (b ∷ s) e = rw e at (forward (b ∷ s) (omega arith)) .0
 
 module _ (P : List ℕ → Type 0) (none : P [])
     (faulty : (number n : ℕ) (s : List ℕ) → front s ≡ Fault number n → P (drop n s) → P s)
-    (sound : (op : Operation) (n : ℕ) (s : List ℕ) → front s ≡ Found op n → P (drop n s) → P s) where
+    (finds : (op : Operation) (n : ℕ) (s : List ℕ) → front s ≡ Found op n → P (drop n s) → P s) where
   up-to : (k : ℕ) (s : List ℕ) → length s ≤ k → P s
   up-to zero [] h = none
   up-to zero (x ∷ s) h = absurd (omega arith)
@@ -41,7 +41,7 @@ module _ (P : List ℕ → Type 0) (none : P [])
       go : (f : Front) → front s ≡ f → ((n : ℕ) → 1 ≤ n → P (drop n s)) → P s
       go End e r = subst P (sym (end-empty s e)) none
       go (Fault number n) e r = faulty number n s e (r n (fault-moves s e))
-      go (Found op n) e r = sound op n s e (r n (omega (arith, found e .least)))
+      go (Found op n) e r = finds op n s e (r n (omega (arith, found e .least)))
 
   pub along : (s : List ℕ) → P s
   along s = up-to (length s) s (le-refl (length s))
@@ -73,18 +73,20 @@ unfolding noFault
 whole-rest s e w = sym (ap noFault (unroll s e)) ∙ w
 
 pub items-append : (s t : List ℕ) → Whole s → itemsOf (s ++ t) ≡ itemsOf s ++ itemsOf t
-items-append s t = along (λ s. Whole s → itemsOf (s ++ t) ≡ itemsOf s ++ itemsOf t) none faulty sound s
+items-append s t = along (λ s. Whole s → itemsOf (s ++ t) ≡ itemsOf s ++ itemsOf t) none faulty finds s
   where
     none : Whole [] → itemsOf t ≡ itemsOf [] ++ itemsOf t
     none w = rw items-nil
 
-    faulty : (number n : ℕ) (s : List ℕ) → front s ≡ Fault number n → (Whole (drop n s) → itemsOf (drop n s ++ t) ≡ itemsOf (drop n s) ++ itemsOf t)
+    faulty : (number n : ℕ) (s : List ℕ) → front s ≡ Fault number n
+        → (Whole (drop n s) → itemsOf (drop n s ++ t) ≡ itemsOf (drop n s) ++ itemsOf t)
         → Whole s → itemsOf (s ++ t) ≡ itemsOf s ++ itemsOf t
     faulty number n s e r w = no-fault-cut s e w
 
-    sound : (op : Operation) (n : ℕ) (s : List ℕ) → front s ≡ Found op n → (Whole (drop n s) → itemsOf (drop n s ++ t) ≡ itemsOf (drop n s) ++ itemsOf t)
+    finds : (op : Operation) (n : ℕ) (s : List ℕ) → front s ≡ Found op n
+        → (Whole (drop n s) → itemsOf (drop n s ++ t) ≡ itemsOf (drop n s) ++ itemsOf t)
         → Whole s → itemsOf (s ++ t) ≡ itemsOf s ++ itemsOf t
-    sound op n s e r w =
+    finds op n s e r w =
         let f = front-append s t e in
         unroll (s ++ t) (f .0) ∙ rw (f .1, f .2, r (whole-rest s e w), unroll s e)
 
@@ -161,7 +163,8 @@ closings-short s = along (λ s. 12 * length (closingIds (itemsOf s)) ≤ length 
     (λ number n s e r. rw (unroll s e) (omega (arith, length-drop n s, r)))
     (λ op n s e r. rw (unroll s e) (go op n s e (closes op) refl r)) s
   where
-    go : (op : Operation) (n : ℕ) (s : List ℕ) → front s ≡ Found op n → (t : Bool) → closes op ≡ t → 12 * length (closingIds (itemsOf (drop n s))) ≤ length (drop n s)
+    go : (op : Operation) (n : ℕ) (s : List ℕ) → front s ≡ Found op n → (t : Bool) → closes op ≡ t
+        → 12 * length (closingIds (itemsOf (drop n s))) ≤ length (drop n s)
         → 12 * length (cond t (idOf op ∷ closingIds (itemsOf (drop n s))) (closingIds (itemsOf (drop n s)))) ≤ length s
     go op n s e true c r = omega (arith, length-drop n s, found e .within, found e .sized, closing-long op c)
     go op n s e false c r = omega (arith, length-drop n s)

@@ -57,7 +57,8 @@ first-of x [] = record { entry = x; first = refl; among = inl refl; least = go }
     go y (inl e) = rw e (before-irreflexive x)
 first-of x (y ∷ xs) = go (goesBefore y x) refl (first-of y xs) (first-of x xs)
   where
-    go : (t : Bool) → goesBefore y x ≡ t → First (firstOf (wins y) xs) (y ∷ xs) → First (firstOf (wins x) xs) (x ∷ xs) → First (firstOf (wins (cond t y x)) xs) (x ∷ y ∷ xs)
+    go : (t : Bool) → goesBefore y x ≡ t → First (firstOf (wins y) xs) (y ∷ xs) → First (firstOf (wins x) xs) (x ∷ xs)
+        → First (firstOf (wins (cond t y x)) xs) (x ∷ y ∷ xs)
     go true e f g = record { entry = f .entry; first = f .first; among = inr (f .among); least = least }
       where
         least : (z : Entry) → Among z (x ∷ y ∷ xs) → goesBefore z (f .entry) ≡ false
@@ -121,7 +122,8 @@ entries-from : (k : ℕ) (ds : List Node) (y : Entry) → Among y (entriesFrom k
 unfolding entriesFrom
 entries-from k (d ∷ ds) y a = go (among-either y (entriesOf k 0 (d .pending)) (entriesFrom (suc k) ds) a) (entries-from (suc k) ds y)
   where
-    go : Among y (entriesOf k 0 (d .pending)) ⊎ Among y (entriesFrom (suc k) ds) → (Among y (entriesFrom (suc k) ds) → HeldFrom (suc k) ds y) → HeldFrom k (d ∷ ds) y
+    go : Among y (entriesOf k 0 (d .pending)) ⊎ Among y (entriesFrom (suc k) ds)
+        → (Among y (entriesFrom (suc k) ds) → HeldFrom (suc k) ds y) → HeldFrom k (d ∷ ds) y
     go (inl a) r = record {
       number = 0;
       attached = omega arith;
@@ -141,7 +143,8 @@ from-entries k [] y h = absurd (omega arith)
 from-entries k (d ∷ ds) y h = go (h .number) (h .attached) (h .here) (from-entries (suc k) ds y)
   where
     go : (n : ℕ) → n < suc (length ds) → Held (k + n) 0 (getD (d ∷ ds) n newNode .pending) y
-        → (HeldFrom (suc k) ds y → Among y (entriesFrom (suc k) ds)) → Among y (entriesOf k 0 (d .pending) ++ entriesFrom (suc k) ds)
+        → (HeldFrom (suc k) ds y → Among y (entriesFrom (suc k) ds))
+        → Among y (entriesOf k 0 (d .pending) ++ entriesFrom (suc k) ds)
     go zero l e r = among-left y (entriesOf k 0 (d .pending)) (entriesFrom (suc k) ds) (held-entries k 0 (d .pending) y (rw add-zero at e))
     go (suc n) l e r =
         among-right y (entriesOf k 0 (d .pending)) (entriesFrom (suc k) ds)
@@ -199,7 +202,8 @@ one-place b x y s t o p = λ i. record { owner = o i; position = p i; frame = sa
         ∙ rw (o, p) (t .held)
 
 -- the winner goes before every other pending frame
-pub winner-first : (b : Bus) (w : Entry) → winner b ≡ wins w → (y : Entry) → Pending b y → (y ≡ w) ⊎ (goesBefore w y ≡ true)
+pub winner-first : (b : Bus) (w : Entry) → winner b ≡ wins w → (y : Entry) → Pending b y
+    → (y ≡ w) ⊎ (goesBefore w y ≡ true)
 winner-first b w e y s = go (goesBefore w y) refl
   where
     f : First (wins w) (entries b)

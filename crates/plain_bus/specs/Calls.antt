@@ -55,10 +55,10 @@ gives a b = record { answer = a; bus = b }
 abbrev pub refuses : Refusal → Bus → Outcome
 refuses r b = gives (refused r) b
 
--- ---- start: 2
+-- ---- start: 2; a refused one gives a bus of no node
 
-unfoldable pub start : ℕ → Step
-start count = cond (leb 2 count && leb count 8) (done (newBus count)) (fails badNodeCount)
+unfoldable pub start : ℕ → Outcome
+start count = cond (leb 2 count && leb count 8) (gives accepted (newBus count)) (refuses badNodeCount (newBus 0))
 
 -- ---- submit (01: hand-in): 4, 5, then 8 or 9 of the first step that fails
 

@@ -13,8 +13,7 @@ use Rattle.decoder.specs.Front.{front}
 use Rattle.decoder.specs.declared.Front.{Front}
 use Rattle.decoder.specs.declared.Front.the-variants.{Fault}
 use Rattle.plain_bus.specs.Held.{Node, Bus}
-use Rattle.plain_bus.specs.Refusal.{Refusal, fourPending}
-use Rattle.plain_bus.specs.Submit.{Step, done, fails}
+use Rattle.plain_bus.specs.Refusal.{fourPending}
 use Rattle.plain_bus.specs.Round.{noError}
 use Rattle.plain_bus.specs.Calls.{Answer, refused, accepted, carried, start}
 use Rattle.plain_bus.specs.Register.{Register}
@@ -36,7 +35,6 @@ pub data Reply : Type 0 where
   stands : Front → Reply
   ends : List Answer → List ℕ → List (List ℕ) → Reply
   opens : Bool → List (List ℕ) → Reply
-  notStarted : Refusal → Reply
 
 unfoldable pub pendingCounts : List Node → List ℕ
 pendingCounts [] = []
@@ -56,20 +54,12 @@ atEnd given b = ends given (pendingCounts (b .nodes)) (queues (b .nodes))
 abbrev pub inWorld : World → Reply
 inWorld w = opens (w .registers .allDone) (openIds (w .registers .each))
 
-unfoldable pub played : List Call → Step → Reply
-played cs (fails r) = notStarted r
-played cs (done b) = atEnd (answers cs b) (calls cs b)
-
-unfoldable pub kept : List Call → Step → Reply
-kept cs (fails r) = notStarted r
-kept cs (done b) = inWorld (run cs (opening b))
-
 unfoldable pub reply : Question → Reply
 reply (written op payload) = bytes (encode op payload)
 reply (isLegal op) = truth (legal op)
 reply (frontOf s) = stands (front s)
-reply (session n cs) = played cs (start n)
-reply (registered n cs) = kept cs (start n)
+reply (session n cs) = atEnd (answers cs (start n .bus)) (calls cs (start n .bus))
+reply (registered n cs) = inWorld (run cs (opening (start n .bus)))
 
 -- ---- a table of questions, each with the reply that is expected
 

@@ -4,7 +4,8 @@
 use Prim.Native.Nat.{ℕ}
 
 pub data Refusal : Type 0 where
-  badNodeCount invalid notAttached bufferTooLong badInjection fourPending queueFull roundsUsedUp roomTooSmall registerFull registerDiffers : Refusal
+  badNodeCount invalid notAttached bufferTooLong badInjection : Refusal
+  fourPending queueFull roundsUsedUp roomTooSmall registerFull registerDiffers : Refusal
 
 abbrev pub numberOf : Refusal → ℕ
 numberOf badNodeCount = 2

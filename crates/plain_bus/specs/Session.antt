@@ -9,9 +9,8 @@ use lib.ListN.{length, getD, set, replicate}
 use Rattle.decoder.specs.Stream.{Item, operation, fault, itemsOf}
 use Rattle.plain_bus.specs.Kinds.{idOf, closes}
 use Rattle.plain_bus.specs.Held.{Frame, Bus, nodeAt}
-use Rattle.plain_bus.specs.Submit.{done}
 use Rattle.plain_bus.specs.Round.{Injection}
-use Rattle.plain_bus.specs.Calls.{Answer, isDone, bytesGiven, Outcome, start, submit, runRound, collect}
+use Rattle.plain_bus.specs.Calls.{Answer, accepted, isDone, bytesGiven, Outcome, start, submit, runRound, collect}
 use Rattle.plain_bus.specs.Register.{Register, newRegister, Update, updated, rejected, enter, read}
 
 -- a node submits a buffer; a round with its injection; a node collects into a buffer of some length
@@ -98,4 +97,4 @@ pub record Claim (w : World) : Type 0 where
 
 -- any accepted start, then any list of calls, refused ones included; the buffers may hold any numbers
 abbrev pub Demand3 : Type 0
-Demand3 = (n : ℕ) (b : Bus) → start n ≡ done b → (cs : List Call) → Claim (run cs (opening b))
+Demand3 = (n : ℕ) → start n .answer ≡ accepted → (cs : List Call) → Claim (run cs (opening (start n .bus)))

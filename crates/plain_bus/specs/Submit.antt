@@ -64,22 +64,22 @@ abbrev pub unanswered : List ℕ → Bool
 unanswered bytes = leb 4 (length bytes) && eqb (numberAt 4 bytes 0) 0x01
 
 -- one step: an item of node k's buffer
-unfoldable pub takeItem : ℕ → Bus → Item → Step
-takeItem k b (operation (FormatError n) bytes) = done b
-takeItem k b (operation (CanTransmit id ide rtr dl) bytes) = takeTransmit b k (CanTransmit id ide rtr dl) bytes
-takeItem k b (operation (FdTransmit id ide brs esi dl) bytes) = takeTransmit b k (FdTransmit id ide brs esi dl) bytes
-takeItem k b (operation (XlTransmit id ide sec sdt vcid af dl) bytes) =
+unfoldable pub takeItem : Bus → ℕ → Item → Step
+takeItem b k (operation (FormatError n) bytes) = done b
+takeItem b k (operation (CanTransmit id ide rtr dl) bytes) = takeTransmit b k (CanTransmit id ide rtr dl) bytes
+takeItem b k (operation (FdTransmit id ide brs esi dl) bytes) = takeTransmit b k (FdTransmit id ide brs esi dl) bytes
+takeItem b k (operation (XlTransmit id ide sec sdt vcid af dl) bytes) =
     takeTransmit b k (XlTransmit id ide sec sdt vcid af dl) bytes
-takeItem k b (operation (Confirm id) bytes) = answerFormatError b k bytes
-takeItem k b (operation (ArbitrationLost id) bytes) = answerFormatError b k bytes
-takeItem k b (operation (BusError id code flag sender) bytes) = answerFormatError b k bytes
-takeItem k b (operation (Configuration kind value) bytes) = done (withNode b k (configure (nodeAt b k) kind value))
-takeItem k b (operation (Status status) bytes) = done (withNode b k (setStatus (nodeAt b k) status))
-takeItem k b (operation Wakeup bytes) = takeWakeup b k
-takeItem k b (fault number bytes) = cond (unanswered bytes) (done b) (answerFormatError b k bytes)
+takeItem b k (operation (Confirm id) bytes) = answerFormatError b k bytes
+takeItem b k (operation (ArbitrationLost id) bytes) = answerFormatError b k bytes
+takeItem b k (operation (BusError id code flag sender) bytes) = answerFormatError b k bytes
+takeItem b k (operation (Configuration kind value) bytes) = done (withNode b k (configure (nodeAt b k) kind value))
+takeItem b k (operation (Status status) bytes) = done (withNode b k (setStatus (nodeAt b k) status))
+takeItem b k (operation Wakeup bytes) = takeWakeup b k
+takeItem b k (fault number bytes) = cond (unanswered bytes) (done b) (answerFormatError b k bytes)
 
 -- all steps, one by one: the first that fails decides
 unfoldable pub takeItems : ℕ → List Item → Step → Step
 takeItems k [] s = s
 takeItems k (i ∷ is) (fails r) = fails r
-takeItems k (i ∷ is) (done b) = takeItems k is (takeItem k b i)
+takeItems k (i ∷ is) (done b) = takeItems k is (takeItem b k i)
