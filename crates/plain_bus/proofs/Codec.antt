@@ -39,7 +39,8 @@ written : (op : Operation) (payload : List ℕ) (least : ℕ) → legal op ≡ t
 unfolding header encode
 written op payload least l p small c h e =
     let size : length (encode op payload) ≡ lengthOf op = encode-length op payload l ∙ ap (λ (n : ℕ). headLength op + n) p in
-    let stated : statedLength (encode op payload) ≡ lengthOf op = number-back 4 (lengthOf op) (omega (arith, head-small op)) in
+    let stated : statedLength (encode op payload) ≡ lengthOf op =
+    number-back 4 (lengthOf op) (omega (arith, head-small op)) in
     let code : numberAt 4 (encode op payload) 0 ≡ codeOf op = number-back 4 (codeOf op) c in
     reads (encode op payload) op least (omega (arith, head-least op l)) (stated ∙ sym size)
     (ap (λ (n : ℕ). shapeOf (kindOf n) (encode op payload)) code ∙ h) (omega arith) size l

@@ -114,16 +114,20 @@ outcome-good w c o (idled e q) g = g
 outcome-good w c o (took k buffer b′ h e) g =
     let r = items-agree k (itemsOf buffer) (w .bus) b′ (w .registers .each) (items-valid buffer) h (g .agree) e in
     let v = register-valid (g .agree .bus .valid .each k h) (g .agree .each k h) in
-    keep-good b′ (w .registers) k _ (g .allDone) (record { register = r .register; result = rw v (r .result); agree = r .agree })
+    keep-good b′ (w .registers) k _ (g .allDone)
+    (record { register = r .register; result = rw v (r .result); agree = r .agree })
 outcome-good w c o (carriedOut e v l q room last) g =
     let b = w .bus in
     let s = round-step b e v (g .agree .bus .valid) l q room last in
-    let r = step-agrees b (afterRound e v b) (v .owner) (b .round + 1) false updated (w .registers .each) s (winner-pending b v q .attached) (g .agree) in
+    let h = winner-pending b v q .attached in
+    let r = step-agrees b (afterRound e v b) (v .owner) (b .round + 1) false updated (w .registers .each) s h (g .agree) in
     let same : r .register ≡ getD (w .registers .each) (v .owner) newRegister = cc (r .result) in
     record { agree = rw (same, set-getD) at (r .agree); allDone = g .allDone }
 outcome-good w c o (handedOver k room h) g =
+    let b = w .bus in
+    let reads : Register → Update = λ x. read x (nodeAt (w .bus) k .queue) in
     keep-good _ (w .registers) k _ (g .allDone)
-    (step-agrees (w .bus) _ k (w .bus .round) false (λ x. read x (nodeAt (w .bus) k .queue)) (w .registers .each) (collect-step (w .bus) k h) h (g .agree))
+    (step-agrees b _ k (b .round) false reads (w .registers .each) (collect-step b k h) h (g .agree))
 
 pub run-good : (cs : List Call) (w : World) → Good w → Good (run cs w)
 unfolding run

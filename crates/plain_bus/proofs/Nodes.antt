@@ -1,13 +1,14 @@
 -- The nodes of a bus by number: what changing one or each of them leaves at a number.
 -- Assumes nothing.
 use mathlib.Core.Path.{_≡_, refl, ap, _∙_}
-use Prim.Native.Nat.{ℕ, zero, suc, _+_, _<_}
+use Prim.Native.Nat.{ℕ, zero, suc, _+_, _≤_, _<_}
 use native.Mathlib.Omega.{arith}
 use native.Mathlib.Nat.{add-zero, zero-add}
 use mathlib.Core.Bool.{Bool, true, false, _&&_}
 use mathlib.Core.List.{List, [], _∷_}
 use lib.ListN.{length, getD}
-use Rattle.plain_bus.specs.Held.{Node, newNode, eachNode, everyNode}
+use borrow.Author.Tests.{leb-true}
+use Rattle.plain_bus.specs.Held.{Node, Bus, queueCapacity, newNode, nodeAt, eachNode, everyNode, hasRoom, allHaveRoom}
 
 pub length-each : (change : ℕ → Node → Node) (k : ℕ) (ds : List Node) → length (eachNode change k ds) ≡ length ds
 unfolding eachNode
@@ -39,6 +40,11 @@ every-from test k (d ∷ ds) e j h = go (test k d) refl e j h (every-from test (
     go true q e zero h r = rw add-zero q
     go true q e (suc j) h r = ap (λ (n : ℕ). test n (getD ds j newNode)) (omega arith) ∙ r e j (omega arith)
 
-pub every-at : (test : ℕ → Node → Bool) (ds : List Node) → everyNode test 0 ds ≡ true → (j : ℕ) → j < length ds
+every-at : (test : ℕ → Node → Bool) (ds : List Node) → everyNode test 0 ds ≡ true → (j : ℕ) → j < length ds
     → test j (getD ds j newNode) ≡ true
 every-at test ds e j h = ap (λ (n : ℕ). test n (getD ds j newNode)) (omega arith) ∙ every-from test 0 ds e j h
+
+-- each node's queue has room for its part
+pub room-at : (part : ℕ → Node → List ℕ) (b : Bus) → allHaveRoom part b ≡ true → (j : ℕ) → j < length (b .nodes)
+    → length (nodeAt b j .queue) + length (part j (nodeAt b j)) ≤ queueCapacity
+room-at part b e j h = leb-true _ queueCapacity (every-at (λ j d. hasRoom d (part j d)) (b .nodes) e j h)

@@ -49,14 +49,18 @@ lower-total a b t u p q = go (ltb a b) refl (ltb b a) refl p q
 -- no frame goes before itself
 pub before-irreflexive : (x : Entry) → goesBefore x x ≡ false
 unfolding goesBefore
-before-irreflexive x = lower-irreflexive (rankOf x) (lower-irreflexive (x .owner) (le-ltb (x .position) (x .position) (omega arith)))
+before-irreflexive x =
+    lower-irreflexive (rankOf x) (lower-irreflexive (x .owner) (le-ltb (x .position) (x .position) (omega arith)))
 
 pub before-transitive : (x y z : Entry) → goesBefore x y ≡ true → goesBefore y z ≡ true → goesBefore x z ≡ true
 unfolding goesBefore
 before-transitive x y z p q =
     lower-transitive (rankOf x) (rankOf y) (rankOf z) _ _ _ p q
     (λ p q. lower-transitive (x .owner) (y .owner) (z .owner) _ _ (ltb (x .position) (z .position)) p q
-    (λ p q. lt-ltb (x .position) (z .position) (omega (arith, ltb-true (x .position) (y .position) p, ltb-true (y .position) (z .position) q))))
+    (λ p q.
+    let a = ltb-true (x .position) (y .position) p in
+    let b = ltb-true (y .position) (z .position) q in
+    lt-ltb (x .position) (z .position) (omega arith)))
 
 pub record SamePlace (x y : Entry) : Type 0 where
   pub rank : rankOf x ≡ rankOf y

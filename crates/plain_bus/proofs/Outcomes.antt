@@ -8,7 +8,7 @@ use lib.Dec.{leb, ltb}
 use lib.ListN.{length}
 use borrow.Author.Tests.{leb-false, ltb-true}
 use Rattle.decoder.specs.Stream.{itemsOf}
-use Rattle.plain_bus.specs.Held.{Bus, lastRound, attached, nodeAt, withNode, withQueue, everyNode, hasRoom}
+use Rattle.plain_bus.specs.Held.{Bus, lastRound, attached, nodeAt, withNode, withQueue, allHaveRoom}
 use Rattle.plain_bus.specs.Refusal.{Refusal, notAttached, bufferTooLong, badInjection, queueFull, roundsUsedUp, roomTooSmall}
 use Rattle.plain_bus.specs.Submit.{Step, done, fails, takeItems}
 use Rattle.plain_bus.specs.Order.{Entry, Winner, nobody, wins, winner}
@@ -22,7 +22,7 @@ pub data Came (b : Bus) : Call → Outcome → Type 0 where
   took : (k : ℕ) (buffer : List ℕ) (b′ : Bus) → k < length (b .nodes) → takeItems k (itemsOf buffer) (done b) ≡ done b′
       → Came b (submission k buffer) (gives accepted b′)
   carriedOut : (e : Injection) (w : Entry) → wrongInjection b e ≡ false → winner b ≡ wins w
-      → everyNode (λ j d. hasRoom d (owed e w j d)) 0 (b .nodes) ≡ true → b .round < lastRound
+      → allHaveRoom (owed e w) b ≡ true → b .round < lastRound
       → Came b (round e) (gives (carried (w .owner) (winnerId w) (isErrored e) (age b w)) (afterRound e w b))
   handedOver : (k room : ℕ) → k < length (b .nodes)
       → Came b (collection k room) (gives (collected (nodeAt b k .queue)) (withNode b k (withQueue (nodeAt b k) [])))
@@ -42,7 +42,7 @@ came b (submission k buffer) =
 came b (round e) = go (wrongInjection b e) refl (winner b) refl
   where
     won : (w : Entry) → wrongInjection b e ≡ false → winner b ≡ wins w
-        → (t : Bool) → everyNode (λ j d. hasRoom d (owed e w j d)) 0 (b .nodes) ≡ t → (u : Bool)
+        → (t : Bool) → allHaveRoom (owed e w) b ≡ t → (u : Bool)
         → leb lastRound (b .round) ≡ u
         → Came b (round e)
         (cond (not t) (refuses queueFull b)
@@ -57,7 +57,7 @@ came b (round e) = go (wrongInjection b e) refl (winner b) refl
     go true l x q = turnedDown badInjection
     go false l nobody q = idled e q
     go false l (wins w) q =
-        won w l q (everyNode (λ j d. hasRoom d (owed e w j d)) 0 (b .nodes)) refl (leb lastRound (b .round)) refl
+        won w l q (allHaveRoom (owed e w) b) refl (leb lastRound (b .round)) refl
 came b (collection k room) = go (attached b k) refl (ltb room (length (nodeAt b k .queue)))
   where
     go : (t : Bool) → attached b k ≡ t → (u : Bool)

@@ -62,7 +62,8 @@ says-nil = record { whole = whole-nil; closing = ap closingIds items-nil }
 pub says-append : {a b x y : List ℕ} → Says a x → Says b y → Says (a ++ b) (x ++ y)
 says-append {a} {b} s t = record {
   whole = whole-append a b (s .whole) (t .whole);
-  closing = ap closingIds (items-append a b (s .whole)) ∙ closing-append (itemsOf a) (itemsOf b) ∙ cc (s .closing, t .closing);
+  closing =
+      ap closingIds (items-append a b (s .whole)) ∙ closing-append (itemsOf a) (itemsOf b) ∙ cc (s .closing, t .closing);
 }
 
 pub says-one : {op : Operation} {bytes : List ℕ} → ReadsWhole op bytes → Says bytes (cond (closes op) (idOf op ∷ []) [])
@@ -110,7 +111,9 @@ says-news (injected code detector) w j d l v on = go (eqb j (w .owner)) (isOff d
   where
     error : (own first : Bool)
         → Says (encode (errorFor w code first own) []) (cond (closes (errorFor w code first own)) (winnerId w ∷ []) [])
-    error own first = says-one (reads-bus-error (winnerId w) code _ _ (error-legal (winnerId w) code first own (read-id (w .frame .bytes) (v .reads)) l))
+    error own first =
+        let low = read-id (w .frame .bytes) (v .reads) in
+        says-one (reads-bus-error (winnerId w) code _ _ (error-legal (winnerId w) code first own low l))
 
     go : (own off first : Bool) → (own ≡ true → off ≡ false)
         → Says (cond off [] (encode (errorFor w code first own) [])) (cond own (winnerId w ∷ []) [])
@@ -122,7 +125,9 @@ says-news (injected code detector) w j d l v on = go (eqb j (w .owner)) (isOff d
 says-lost : (low now : ℕ) (fs : List Frame) → ValidFrames low now fs → Says (lostNotices fs) (pendingIds fs)
 unfolding lostNotices pendingIds
 says-lost low now [] v = says-nil
-says-lost low now (f ∷ fs) v = says-append (says-one (reads-lost (idOf (f .op)) (read-id (f .bytes) (v .0 .reads)))) (says-lost (f .accepted) now fs (v .3))
+says-lost low now (f ∷ fs) v =
+    let one = says-one (reads-lost (idOf (f .op)) (read-id (f .bytes) (v .0 .reads))) in
+    says-append one (says-lost (f .accepted) now fs (v .3))
 
 -- the sender's part closes the winner, and Arbitration Lost each frame that is told
 pub says-owed : (e : Injection) (w : Entry) (j : ℕ) (d : Node) (low now : ℕ) → LegalInjection e → ValidFrame (w .frame)

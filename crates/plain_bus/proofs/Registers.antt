@@ -136,7 +136,8 @@ unfolding readItem closeId
 read-fits r (operation op bytes) v f = go (closes op) (isOpen (idOf op) (r .opened))
   where
     go : (t u : Bool)
-        → FitsAfter (cond t (cond u (updated (withOpened r (remove (idOf op) (r .opened)))) (rejected registerDiffers)) (updated r))
+        → FitsAfter
+        (cond t (cond u (updated (withOpened r (remove (idOf op) (r .opened)))) (rejected registerDiffers)) (updated r))
     go true true = record {
       few = omega (arith, length-remove (idOf op) (r .opened), f .few);
       low = none-above-remove maxExtendedId (idOf op) (r .opened) (f .low);
@@ -162,7 +163,8 @@ kept-by step keeps r buffer {r′} e = go (validRegister r) refl e
   where
     go : (t : Bool) → validRegister r ≡ t
         → cond t (updates step (itemsOf buffer) (updated r)) (rejected invalid) ≡ updated r′ → validRegister r′ ≡ true
-    go true q e = valid-of r′ (subst FitsAfter e (updates-fit step keeps (itemsOf buffer) (updated r) (items-valid buffer) (fits-of r q)))
+    go true q e =
+        valid-of r′ (subst FitsAfter e (updates-fit step keeps (itemsOf buffer) (updated r) (items-valid buffer) (fits-of r q)))
     go false q e = let z : _≡_ {A = ℕ} 0 1 = cc in absurd (omega arith)
 
 -- entering, and reading, keep a register valid

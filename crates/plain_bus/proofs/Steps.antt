@@ -16,9 +16,9 @@ use Rattle.operation.specs.declared.Operation.the-variants.{FormatError, CanTra
 use Rattle.decoder.specs.Stream.{Item, operation, fault}
 use Rattle.decoder.proofs.Found.{found}
 use Rattle.plain_bus.specs.Kinds.{isTransmit, idOf}
-use Rattle.plain_bus.specs.Held.{Frame, Node, Bus, maxPending, queueCapacity, lastRound, busOff, isOff, withQueue, newNode, attached, nodeAt, withNode, withNodes, eachNode, everyNode, hasRoom, enqueue}
+use Rattle.plain_bus.specs.Held.{Frame, Node, Bus, maxPending, queueCapacity, lastRound, busOff, isOff, withQueue, newNode, attached, nodeAt, withNode, withNodes, eachNode, hasRoom, allHaveRoom, enqueue}
 use Rattle.plain_bus.specs.Refusal.{Refusal, fourPending, queueFull}
-use Rattle.plain_bus.specs.Submit.{done, fails, accept, takeTransmit, wakeupFor, takeWakeup, formatError, answerFormatError, unanswered, takeItem, takeItems}
+use Rattle.plain_bus.specs.Submit.{done, fails, accept, takeTransmit, wakeupFor, wake, takeWakeup, formatError, answerFormatError, unanswered, takeItem, takeItems}
 use Rattle.plain_bus.specs.Order.{Entry, Pending, wins, winner}
 use Rattle.plain_bus.specs.Round.{Injection, noError, injected, owed, settle, afterRound}
 use Rattle.plain_bus.specs.Calls.{wrongInjection}
@@ -26,7 +26,7 @@ use Rattle.plain_bus.specs.Valid.{ReadsWhole, ValidFrame, Valid}
 use Rattle.plain_bus.specs.Register.{Register, Update, updated, openId, enterItem, read}
 use Rattle.plain_bus.proofs.Codec.{reads-format-error, reads-wakeup}
 use Rattle.plain_bus.proofs.Whole.{ValidItem}
-use Rattle.plain_bus.proofs.Nodes.{length-each, each-at, every-at}
+use Rattle.plain_bus.proofs.Nodes.{length-each, each-at, room-at}
 use Rattle.plain_bus.proofs.Winner.{winner-pending}
 use Rattle.plain_bus.proofs.Validity.{pending-valid}
 use Rattle.plain_bus.proofs.Changes.{LegalInjection, Own, Change, still, ignored, joined, configured, statusSet, answered, settled, collected}
@@ -51,7 +51,8 @@ never e = let z : _≡_ {A = ℕ} 0 1 = cc in absurd (omega arith)
 moved : {b b′ b″ : Bus} {k later : ℕ} {clears : Bool} {call : Register → Update} → done b′ ≡ done b″
     → Stepped b b′ k later clears call
     → Stepped b b″ k later clears call
-moved {b} {k = k} {later = later} {clears = clears} {call = call} e s = subst (λ (y : Bus). Stepped b y k later clears call) (bus-of e) s
+moved {b} {k = k} {later = later} {clears = clears} {call = call} e s =
+    subst (λ (y : Bus). Stepped b y k later clears call) (bus-of e) s
 
 -- what failed stays failed
 pub fails-stay : (k : ℕ) (is : List Item) (r : Refusal) → takeItems k is (fails r) ≡ fails r
@@ -107,8 +108,8 @@ module _ (b : Bus) (k : ℕ) (h : k < length (b .nodes)) where
       go true qo p qp e = moved e (same-step (ignored (idOf op) qo))
       go false qo true qp e = never e
       go false qo false qp e =
-          moved e
-          (node-step _ (joined f qo (leb-false maxPending (length (nodeAt b k .pending)) qp) (record { transmit = t; reads = r }) refl))
+          let few = leb-false maxPending (length (nodeAt b k .pending)) qp in
+          moved e (node-step _ (joined f qo few (record { transmit = t; reads = r }) refl))
 
   -- the bytes of a Format Error are more than those that it answers
   answer-long : (bytes : List ℕ) → length bytes ≤ length (formatError bytes)
@@ -125,35 +126,36 @@ module _ (b : Bus) (k : ℕ) (h : k < length (b .nodes)) where
           → Stepped b b′ k (b .round) false updated
       go false q e = never e
       go true q e =
-          let room : length (nodeAt b k .queue) + length (formatError bytes) ≤ queueCapacity = leb-true _ queueCapacity q in
+          let room = leb-true (length (nodeAt b k .queue) + length (formatError bytes)) queueCapacity q in
+          let small : length bytes < 65_536 = omega (arith, answer-long bytes) in
           moved e
-          (node-step _ (answered (FormatError (length bytes)) (formatError bytes) (reads-format-error bytes (omega (arith, answer-long bytes))) refl room))
+          (node-step _ (answered (FormatError (length bytes)) (formatError bytes) (reads-format-error bytes small) refl room))
 
-  wakeup-change : (now j : ℕ) (d : Node) → hasRoom d (wakeupFor k j d) ≡ true
-      → Change now now false updated d (enqueue d (wakeupFor k j d))
+  wakeup-change : (now j : ℕ) (d : Node) → length (d .queue) + length (wakeupFor k j d) ≤ queueCapacity
+      → Change now now false updated d (wake k j d)
   wakeup-change now j d r = go (eqb j k || isOff d) r
     where
-      go : (t : Bool) → hasRoom d (cond t [] (encode Wakeup [])) ≡ true
+      go : (t : Bool) → length (d .queue) + length (cond t [] (encode Wakeup [])) ≤ queueCapacity
           → Change now now false updated d (enqueue d (cond t [] (encode Wakeup [])))
       go true r = subst (λ (q : List ℕ). Change now now false updated d (withQueue d q)) (sym (append-nil (d .queue))) still
-      go false r = answered Wakeup (encode Wakeup []) reads-wakeup refl (leb-true _ queueCapacity r)
+      go false r = answered Wakeup (encode Wakeup []) reads-wakeup refl r
 
   wakeup-step : {b′ : Bus} → takeWakeup b k ≡ done b′ → Stepped b b′ k (b .round) false updated
   unfolding takeWakeup
-  wakeup-step {b′} e = go (isOff (nodeAt b k)) (everyNode (λ j d. hasRoom d (wakeupFor k j d)) 0 (b .nodes)) refl e
+  wakeup-step {b′} e = go (isOff (nodeAt b k)) (allHaveRoom (wakeupFor k) b) refl e
     where
-      at : everyNode (λ j d. hasRoom d (wakeupFor k j d)) 0 (b .nodes) ≡ true → (j : ℕ) → j < length (b .nodes)
-          → Change (b .round) (b .round) false updated (nodeAt b j) (getD (eachNode (λ j d. enqueue d (wakeupFor k j d)) 0 (b .nodes)) j newNode)
+      at : allHaveRoom (wakeupFor k) b ≡ true → (j : ℕ) → j < length (b .nodes)
+          → Change (b .round) (b .round) false updated (nodeAt b j) (getD (eachNode (wake k) 0 (b .nodes)) j newNode)
       at q j l =
-          rw (each-at (λ j d. enqueue d (wakeupFor k j d)) (b .nodes) j l)
-          (wakeup-change (b .round) j (nodeAt b j) (every-at (λ j d. hasRoom d (wakeupFor k j d)) (b .nodes) q j l))
+          rw (each-at (wake k) (b .nodes) j l) (wakeup-change (b .round) j (nodeAt b j) (room-at (wakeupFor k) b q j l))
 
-      go : (o t : Bool) → everyNode (λ j d. hasRoom d (wakeupFor k j d)) 0 (b .nodes) ≡ t
-          → cond o (done b) (cond t (done (withNodes b (eachNode (λ j d. enqueue d (wakeupFor k j d)) 0 (b .nodes)))) (fails queueFull)) ≡ done b′ → Stepped b b′ k (b .round) false updated
+      go : (o t : Bool) → allHaveRoom (wakeupFor k) b ≡ t
+          → cond o (done b) (cond t (done (withNodes b (eachNode (wake k) 0 (b .nodes)))) (fails queueFull)) ≡ done b′
+          → Stepped b b′ k (b .round) false updated
       go true t q e = moved e (same-step still)
       go false false q e = never e
       go false true q e = moved e (record {
-        size = length-each (λ j d. enqueue d (wakeupFor k j d)) 0 (b .nodes);
+        size = length-each (wake k) 0 (b .nodes);
         round = refl;
         bound = λ l. l;
         own = at q k h;
@@ -167,7 +169,8 @@ module _ (b : Bus) (k : ℕ) (h : k < length (b .nodes)) where
   item-step (operation (FormatError n) bytes) v e = moved e (same-step still)
   item-step (operation (CanTransmit id ide rtr dl) bytes) v e = transmit-step (CanTransmit id ide rtr dl) bytes refl v e
   item-step (operation (FdTransmit id ide brs esi dl) bytes) v e = transmit-step (FdTransmit id ide brs esi dl) bytes refl v e
-  item-step (operation (XlTransmit id ide sec sdt vcid af dl) bytes) v e = transmit-step (XlTransmit id ide sec sdt vcid af dl) bytes refl v e
+  item-step (operation (XlTransmit id ide sec sdt vcid af dl) bytes) v e =
+      transmit-step (XlTransmit id ide sec sdt vcid af dl) bytes refl v e
   item-step (operation (Confirm id) bytes) v e = answer-step bytes e
   item-step (operation (ArbitrationLost id) bytes) v e = answer-step bytes e
   item-step (operation (BusError id code flag sender) bytes) v e = answer-step bytes e
@@ -199,7 +202,7 @@ injection-legal b (injected code detector) q = go (oneOf code errorCodes) refl q
     go false e q = let z : _≡_ {A = ℕ} 0 1 = cc in absurd (omega arith)
 
 pub round-step : (b : Bus) (e : Injection) (w : Entry) → Valid b → wrongInjection b e ≡ false → winner b ≡ wins w
-    → everyNode (λ j d. hasRoom d (owed e w j d)) 0 (b .nodes) ≡ true → b .round < lastRound
+    → allHaveRoom (owed e w) b ≡ true → b .round < lastRound
     → Stepped b (afterRound e w b) (w .owner) (b .round + 1) false updated
 unfolding afterRound
 round-step b e w v l q room last = record {
@@ -223,4 +226,4 @@ round-step b e w v l q room last = record {
         → Change (b .round) (b .round + 1) false updated (nodeAt b j) (getD (eachNode (settle e w) 0 (b .nodes)) j newNode)
     at j h =
         rw (each-at (settle e w) (b .nodes) j h)
-        (settled e w j (injection-legal b e l) f (own j) (leb-true _ queueCapacity (every-at (λ j d. hasRoom d (owed e w j d)) (b .nodes) room j h)))
+        (settled e w j (injection-legal b e l) f (own j) (room-at (owed e w) b room j h))

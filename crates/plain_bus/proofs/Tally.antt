@@ -11,6 +11,7 @@ use lib.Dec.{leb, eqb}
 use lib.ListN.{length, getD, set}
 use borrow.Author.Tests.{le-leb, lt-leb, eq-eqb}
 use Rattle.operation.specs.Rules.{maxExtendedId}
+use Rattle.operation.proofs.Tests.{false-is-true}
 use Rattle.decoder.specs.Stream.{Item, operation, fault, itemsOf}
 use Rattle.plain_bus.specs.Kinds.{idOf, closes}
 use Rattle.plain_bus.specs.Held.{Frame, Node, maxPending, busOff, isOff, withStatus, withBehaviour, withRates, withPending, withQueue, enqueue}
@@ -18,7 +19,7 @@ use Rattle.plain_bus.specs.Submit.{accept, cleared, configure, setStatus
 use Rattle.plain_bus.specs.Order.{Entry}
 use Rattle.plain_bus.specs.Round.{winnerId, without, losers, drops, told, stay, owed, settle}
 use Rattle.plain_bus.specs.Valid.{ValidFrames, ValidNode, Whole}
-use Rattle.plain_bus.specs.Register.{Register, maxOpen, withOpened, noneAbove, validRegister, Update, updated, updates, openId, withOff, noteStatus, isOpen, remove, closeId, readItem, read}
+use Rattle.plain_bus.specs.Register.{Register, maxOpen, withOpened, validRegister, Update, updated, updates, openId, withOff, noteStatus, isOpen, remove, closeId, readItem, read}
 use Rattle.plain_bus.specs.Session.{count, pendingIds, closingIds}
 use Rattle.plain_bus.proofs.Counts.{count-append, count-all, count-none, count-remove, open-counted, none-above}
 use Rattle.plain_bus.proofs.Whole.{ValidItems, items-nil, items-append, items-valid, whole-append, whole-nil, closing-append, closings-short}
@@ -44,8 +45,10 @@ length-pending (f ∷ fs) = ap suc (length-pending fs)
 -- so many are open
 open-length : {d : Node} {x : Register} → Tally d x → length (x .opened) ≡ length (d .pending) + length (closings d)
 open-length {d} {x} t =
-    let e : count (λ y. true) (x .opened) ≡ count (λ y. true) (pendingIds (d .pending)) + count (λ y. true) (closings d) = t .counts (λ y. true) in
-    omega (arith, count-all (x .opened), count-all (pendingIds (d .pending)), count-all (closings d), length-pending (d .pending))
+    let a = count-all (x .opened) in
+    let b = count-all (pendingIds (d .pending)) in
+    let c = count-all (closings d) in
+    omega (arith, t .counts (λ y. true), length-pending (d .pending))
 
 few-closings : {now : ℕ} {d : Node} → ValidNode now d → length (closings d) ≤ 341
 few-closings {now} {d} v = omega (arith, closings-short (d .queue), v .room)
@@ -56,7 +59,8 @@ tooHigh id = not (leb id maxExtendedId)
 pending-low : (low now : ℕ) (fs : List Frame) → ValidFrames low now fs → count tooHigh (pendingIds fs) ≡ 0
 unfolding count pendingIds
 pending-low low now [] v = refl
-pending-low low now (f ∷ fs) v = rw (le-leb (idOf (f .op)) maxExtendedId (read-id (f .bytes) (v .0 .reads)), pending-low (f .accepted) now fs (v .3))
+pending-low low now (f ∷ fs) v =
+    rw (le-leb (idOf (f .op)) maxExtendedId (read-id (f .bytes) (v .0 .reads)), pending-low (f .accepted) now fs (v .3))
 
 closings-low : (is : List Item) → ValidItems is → count tooHigh (closingIds is) ≡ 0
 unfolding count closingIds
@@ -72,10 +76,11 @@ closings-low (operation op bytes ∷ is) v = go (closes op) (closings-low is (v 
 pub register-valid : {now : ℕ} {d : Node} {x : Register} → ValidNode now d → Tally d x → validRegister x ≡ true
 unfolding validRegister
 register-valid {now} {d} {x} v t =
-    let a : leb (length (x .opened)) maxOpen ≡ true = le-leb (length (x .opened)) maxOpen (omega (arith, open-length t, few-closings v, v .few)) in
-    let b : noneAbove maxExtendedId (x .opened) ≡ true =
-    none-above maxExtendedId (x .opened) (t .counts tooHigh ∙ rw (pending-low 0 now (d .pending) (v .frames), closings-low (itemsOf (d .queue)) (items-valid (d .queue)))) in
-    rw (a, b) (go (x .off) (t .shut))
+    let few : length (x .opened) ≤ maxOpen = omega (arith, open-length t, few-closings v, v .few) in
+    let p = pending-low 0 now (d .pending) (v .frames) in
+    let q = closings-low (itemsOf (d .queue)) (items-valid (d .queue)) in
+    let low = none-above maxExtendedId (x .opened) (t .counts tooHigh ∙ rw (p, q)) in
+    rw (le-leb (length (x .opened)) maxOpen few, low) (go (x .off) (t .shut))
   where
     go : (o : Bool) → (o ≡ true → x .opened ≡ []) → (not o || eqb (length (x .opened)) 0) ≡ true
     go true f = rw (f refl)
@@ -91,7 +96,7 @@ pending-join : (p : ℕ → Bool) (fs : List Frame) (f : Frame)
     → count p (pendingIds (fs ++ f ∷ [])) ≡ count p (pendingIds fs) + count p (idOf (f .op) ∷ [])
 unfolding pendingIds count
 pending-join p [] f = omega arith
-pending-join p (g ∷ fs) f = let h : count p (pendingIds (fs ++ f ∷ [])) ≡ count p (pendingIds fs) + count p (idOf (f .op) ∷ []) = pending-join p fs f in omega arith
+pending-join p (g ∷ fs) f = let h = pending-join p fs f in omega arith
 
 joined-tally : {now : ℕ} {d : Node} {x : Register} (f : Frame) → isOff d ≡ false → length (d .pending) < maxPending
     → ValidNode now d → Tally d x
@@ -100,13 +105,13 @@ unfolding openId
 joined-tally {now} {d} {x} f on few v t =
     let off : x .off ≡ false = t .flag ∙ on in
     let id = idOf (f .op) in
-    let space : leb maxOpen (length (x .opened)) ≡ false = lt-leb maxOpen (length (x .opened)) (omega (arith, open-length t, few-closings v)) in (
+    let room : length (x .opened) < maxOpen = omega (arith, open-length t, few-closings v) in (
       withOpened x (x .opened ++ id ∷ []),
-      rw (off, space),
+      rw (off, lt-leb maxOpen (length (x .opened)) room),
       record {
         counts = λ p. omega (arith, t .counts p, count-append p (x .opened) (id ∷ []), pending-join p (d .pending) f);
         flag = t .flag;
-        shut = λ e. let z : _≡_ {A = ℕ} 0 1 = cc (e, off) in absurd (omega arith);
+        shut = λ e. false-is-true (sym off ∙ e);
       },
     )
 
@@ -124,38 +129,45 @@ status-tally {d} {x} status t = go (eqb status busOff) refl
   where
     go : (b : Bool) → eqb status busOff ≡ b → Tally (withStatus (cond b (cleared d) d) status) (withOff x b)
     go true e = record { counts = λ p. rw items-nil; flag = sym e; shut = λ q. refl }
-    go false e = record { counts = t .counts; flag = sym e; shut = λ q. let z : _≡_ {A = ℕ} 0 1 = cc in absurd (omega arith) }
+    go false e = record { counts = t .counts; flag = sym e; shut = λ q. false-is-true q }
 
 -- operations are added to the queue, and the IDs that they close are no longer pending
 queued-tally : {d : Node} {x : Register} (fs : List Frame) (bytes ids : List ℕ) → Whole (d .queue) → Says bytes ids
     → ((p : ℕ → Bool) → count p (pendingIds (d .pending)) ≡ count p (pendingIds fs) + count p ids)
     → Tally d x → Tally (enqueue (withPending d fs) bytes) x
-queued-tally {d} {x} fs bytes ids w s h t = record {
-  counts = λ p. rw (items-append (d .queue) bytes w, closing-append, s .closing) (omega (arith, t .counts p, h p, count-append p (closings d) ids));
-  flag = t .flag;
-  shut = t .shut;
-}
+queued-tally {d} {x} fs bytes ids w s h t =
+    record {
+      counts = λ p.
+          rw (items-append (d .queue) bytes w, closing-append, s .closing)
+          (omega (arith, t .counts p, h p, count-append p (closings d) ids));
+      flag = t .flag;
+      shut = t .shut;
+    }
 
 count-without : (p : ℕ → Bool) (i : ℕ) (fs : List Frame) (f : Frame) → i < length fs → getD fs i f ≡ f
     → count p (pendingIds fs) ≡ count p (idOf (f .op) ∷ []) + count p (pendingIds (without i fs))
 unfolding count pendingIds without
 count-without p i [] f h e = absurd (omega arith)
 count-without p zero (g ∷ fs) f h e = rw e (omega arith)
-count-without p (suc i) (g ∷ fs) f h e =
-    let r : count p (pendingIds fs) ≡ count p (idOf (f .op) ∷ []) + count p (pendingIds (without i fs)) = count-without p i fs f (omega arith) e in
-    omega arith
+count-without p (suc i) (g ∷ fs) f h e = let r = count-without p i fs f (omega arith) e in omega arith
 
 -- the winner, the frames that are told and those that stay are all that was pending
 round-splits : (p : ℕ → Bool) (w : Entry) (j : ℕ) (d : Node) → (eqb j (w .owner) ≡ true → Own w d)
-    → count p (pendingIds (d .pending)) ≡ count p (pendingIds (stay w j d)) + count p (cond (eqb j (w .owner)) (winnerId w ∷ []) [] ++ pendingIds (told w j d))
+    → count p (pendingIds (d .pending))
+    ≡ count p (pendingIds (stay w j d)) + count p (cond (eqb j (w .owner)) (winnerId w ∷ []) [] ++ pendingIds (told w j d))
 unfolding stay told losers pendingIds count
 round-splits p w j d own = go (eqb j (w .owner)) (drops w j d) own
   where
+    removed : Own w d
+        → count p (pendingIds (d .pending)) ≡ count p (winnerId w ∷ []) + count p (pendingIds (without (w .position) (d .pending)))
+    removed o = count-without p (w .position) (d .pending) (w .frame) (o .placed) (o .held)
+
     go : (u t : Bool) → (u ≡ true → Own w d)
         → let l = cond u (without (w .position) (d .pending)) (d .pending) in
-        count p (pendingIds (d .pending)) ≡ count p (pendingIds (cond t [] l)) + count p (cond u (winnerId w ∷ []) [] ++ pendingIds (cond t l []))
-    go true true own = count-without p (w .position) (d .pending) (w .frame) (own refl .placed) (own refl .held) ∙ omega arith
-    go true false own = count-without p (w .position) (d .pending) (w .frame) (own refl .placed) (own refl .held) ∙ omega arith
+        count p (pendingIds (d .pending))
+        ≡ count p (pendingIds (cond t [] l)) + count p (cond u (winnerId w ∷ []) [] ++ pendingIds (cond t l []))
+    go true true own = let r = removed (own refl) in omega arith
+    go true false own = let r = removed (own refl) in omega arith
     go false true own = omega arith
     go false false own = omega arith
 
@@ -167,28 +179,36 @@ pending-on {now} {d} v h = go (isOff d) refl
     go true e = absurd (omega (arith, ap length (v .silent e)))
     go false e = e
 
+-- a reading that is done, and leaves open what the test counts as `rest`
+record Reads (u : Update) (rest : (ℕ → Bool) → ℕ) (off : Bool) : Type 0 where
+  register : Register
+  done : u ≡ updated register
+  left : (p : ℕ → Bool) → count p (register .opened) ≡ rest p
+  same : register .off ≡ off
+
 -- reading takes out exactly the IDs that the items close
 read-all : (is : List Item) (x : Register) (rest : (ℕ → Bool) → ℕ)
-    → ((p : ℕ → Bool) → count p (x .opened) ≡ rest p + count p (closingIds is))
-    → (x′ : Register) × (updates readItem is (updated x) ≡ updated x′) × ((p : ℕ → Bool) → count p (x′ .opened) ≡ rest p) × (x′ .off ≡ x .off)
+    → ((p : ℕ → Bool) → count p (x .opened) ≡ rest p + count p (closingIds is)) → Reads (updates readItem is (updated x)) rest (x .off)
 unfolding updates readItem closingIds count closeId
-read-all [] x rest h = (x, refl, (λ p. omega (arith, h p)), refl)
+read-all [] x rest h = record { register = x; done = refl; left = λ p. omega (arith, h p); same = refl }
 read-all (fault number bytes ∷ is) x rest h = read-all is x rest h
 read-all (operation op bytes ∷ is) x rest h = go (closes op) h (λ y g. read-all is y rest g)
   where
     id : ℕ
     id = idOf op
 
-    Out : Update → Bool → Type 0
-    Out u o = (x′ : Register) × (updates readItem is u ≡ updated x′) × ((p : ℕ → Bool) → count p (x′ .opened) ≡ rest p) × (x′ .off ≡ o)
+    Rest : Register → Type 0
+    Rest y =
+        ((p : ℕ → Bool) → count p (y .opened) ≡ rest p + count p (closingIds is))
+        → Reads (updates readItem is (updated y)) rest (y .off)
 
     go : (t : Bool)
         → ((p : ℕ → Bool) → count p (x .opened) ≡ rest p + count p (cond t (id ∷ closingIds is) (closingIds is)))
-        → ((y : Register) → ((p : ℕ → Bool) → count p (y .opened) ≡ rest p + count p (closingIds is)) → Out (updated y) (y .off))
-        → Out (cond t (closeId x id) (updated x)) (x .off)
+        → ((y : Register) → Rest y) → Reads (updates readItem is (cond t (closeId x id) (updated x))) rest (x .off)
     go true h r =
-        let open′ : isOpen id (x .opened) ≡ true = open-counted id (x .opened) (omega (arith, h (λ y. eqb y id), ap {B = ℕ} (λ t. cond t 1 0) (eq-eqb id id refl))) in
-        rw open′ (r (withOpened x (remove id (x .opened))) (λ p. omega (arith, h p, count-remove p id (x .opened) open′)))
+        let one : _≡_ {A = ℕ} (cond (eqb id id) 1 0) 1 = rw (eq-eqb id id refl) in
+        let here : isOpen id (x .opened) ≡ true = open-counted id (x .opened) (omega (arith, h (λ y. eqb y id))) in
+        rw here (r (withOpened x (remove id (x .opened))) (λ p. omega (arith, h p, count-remove p id (x .opened) here)))
     go false h r = r x h
 
 collected-tally : {now : ℕ} {d : Node} {x : Register} → ValidNode now d → Tally d x
@@ -196,13 +216,14 @@ collected-tally : {now : ℕ} {d : Node} {x : Register} → ValidNode now d → 
 unfolding read count closingIds
 collected-tally {now} {d} {x} v t =
     let r = read-all (itemsOf (d .queue)) x (λ p. count p (pendingIds (d .pending))) (t .counts) in (
-      r .0,
-      rw (register-valid v t) (r .1),
+      r .register,
+      rw (register-valid v t) (r .done),
       record {
-        counts = λ p. rw items-nil (omega (arith, r .2 p));
-        flag = r .3 ∙ t .flag;
-        shut = λ e. count-none (r .0 .opened)
-            (r .2 (λ y. true) ∙ omega (arith, t .counts (λ y. true), ap (λ l. count (λ y. true) l) (t .shut (sym (r .3) ∙ e))));
+        counts = λ p. rw items-nil (omega (arith, r .left p));
+        flag = r .same ∙ t .flag;
+        shut = λ e.
+            let none = ap (λ l. count (λ y. true) l) (t .shut (sym (r .same) ∙ e)) in
+            count-none (r .register .opened) (omega (arith, r .left (λ y. true), t .counts (λ y. true)));
       },
     )
 
@@ -220,7 +241,8 @@ change-tally {d = d} {x = x} (answered op bytes r c room) v w t =
     (x, refl, queued-tally (d .pending) bytes [] w (rw c at (says-one r)) (λ p. omega arith) t)
 change-tally {now} {d = d} {x = x} (settled e s j l vf own room) v w t =
     let on : eqb j (s .owner) ≡ true → isOff d ≡ false = λ q. pending-on v (omega (arith, own q .placed)) in
-    (x, refl, queued-tally (stay s j d) (owed e s j d) _ w (says-owed e s j d 0 now l vf on (told-valid now d s j v)) (λ p. round-splits p s j d own) t)
+    let says = says-owed e s j d 0 now l vf on (told-valid now d s j v) in
+    (x, refl, queued-tally (stay s j d) (owed e s j d) _ w says (λ p. round-splits p s j d own) t)
 change-tally collected v w t = collected-tally v t
 
 -- every change keeps the queue a sequence of whole operations

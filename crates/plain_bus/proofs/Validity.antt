@@ -1,6 +1,6 @@
 -- Each change of a node keeps it valid, and keeps its queue a sequence of whole operations.
 -- Assumes nothing.
-use mathlib.Core.Path.{_≡_, refl, _∙_, subst}
+use mathlib.Core.Path.{_≡_, refl, sym, _∙_, subst}
 use Prim.Native.Nat.{ℕ, zero, suc, _+_, _-_, _≤_, _<_}
 use native.Mathlib.Omega.{arith}
 use mathlib.Core.Bool.{Bool, true, false, cond}
@@ -9,8 +9,9 @@ use lib.Dec.{leb, eqb}
 use lib.ListN.{length, getD, set, length-append, length-set}
 use borrow.Author.Tests.{leb-true}
 use Rattle.operation.specs.Rules.{oneOf, settingRule, rules, legal, statuses, behaviours}
-use Rattle.operation.proofs.Tests.{passed}
+use Rattle.operation.proofs.Tests.{false-is-true, passed}
 use Rattle.operation.specs.declared.Operation.the-variants.{Configuration, Status}
+use Rattle.decoder.proofs.Found.{found}
 use Rattle.plain_bus.specs.Held.{Frame, Node, Bus, maxPending, queueCapacity, busOff, isOff, withStatus, withBehaviour, withRates, withPending, withQueue, nodeAt, enqueue}
 use Rattle.plain_bus.specs.Submit.{cleared, configure, setStatus}
 use Rattle.plain_bus.specs.Order.{Entry, Pending}
@@ -51,6 +52,10 @@ frame-at : (low now i : ℕ) (fs : List Frame) (f : Frame) → ValidFrames low n
 frame-at low now i [] f v h e = absurd (omega arith)
 frame-at low now zero (g ∷ fs) f v h e = subst (λ (x : Frame). ValidFrame x × (x .accepted ≤ now)) e (v .0, v .2)
 frame-at low now (suc i) (g ∷ fs) f v h e = frame-at (g .accepted) now i fs f (v .3) (omega arith) e
+
+-- a valid frame meets the content rules
+pub frame-legal : (f : Frame) → ValidFrame f → legal (f .op) ≡ true
+frame-legal f v = found (v .reads) .lawful
 
 -- a pending frame of a valid bus is valid, and was accepted at a round not above the present one
 pub pending-valid : (b : Bus) (w : Entry) → Valid b → Pending b w
@@ -152,7 +157,9 @@ configured-valid now d kind value l v = go (eqb kind 4) (setting-legal kind valu
     go : (t : Bool) → cond t (oneOf value behaviours) (leb 1 value) ≡ true
         → ValidNode now (cond t (withBehaviour d value) (withRates d (set (d .rates) (kind - 1) value)))
     go true e = valid-behaviour v value e
-    go false e = valid-rates v _ (length-set (d .rates) (kind - 1) value ∙ v .three) (non-zero-set (d .rates) (kind - 1) value (leb-true 1 value e) (v .rates))
+    go false e =
+        valid-rates v _ (length-set (d .rates) (kind - 1) value ∙ v .three)
+        (non-zero-set (d .rates) (kind - 1) value (leb-true 1 value e) (v .rates))
 
 cleared-valid : {now : ℕ} {d : Node} → ValidNode now d → ValidNode now (cleared d)
 cleared-valid v = record {
@@ -173,36 +180,46 @@ status-valid now d status l v = go (eqb status busOff) refl
   where
     go : (t : Bool) → eqb status busOff ≡ t → ValidNode now (withStatus (cond t (cleared d) d) status)
     go true e = valid-status (cleared-valid v) status (status-legal status l) (λ q. refl)
-    go false e = valid-status v status (status-legal status l) (λ q. let z : _≡_ {A = ℕ} 0 1 = cc in absurd (omega arith))
+    go false e = valid-status v status (status-legal status l) (λ q. false-is-true (sym e ∙ q))
 
--- the frames that stay pending after a round
-record Staying (now : ℕ) (d : Node) (fs : List Frame) : Type 0 where
+-- frames that a node may have pending
+record Holds (now : ℕ) (d : Node) (fs : List Frame) : Type 0 where
   few : length fs ≤ maxPending
   silent : isOff d ≡ true → fs ≡ []
-  frames : ValidFrames 0 (now + 1) fs
+  frames : ValidFrames 0 now fs
 
-stay-valid : (now : ℕ) (d : Node) (w : Entry) (j : ℕ) → ValidNode now d → Staying now d (stay w j d)
-unfolding stay losers without
-stay-valid now d w j v = go (drops w j d) (eqb j (w .owner))
+holds-none : (now : ℕ) (d : Node) → Holds now d []
+holds-none now d = record { few = omega arith; silent = λ q. refl; frames = tt }
+
+losers-valid : (now : ℕ) (d : Node) (w : Entry) (j : ℕ) → ValidNode now d → Holds now d (losers w j d)
+unfolding losers without
+losers-valid now d w j v = go (eqb j (w .owner))
   where
-    go : (t u : Bool) → Staying now d (cond t [] (cond u (without (w .position) (d .pending)) (d .pending)))
-    go true u = record { few = omega arith; silent = λ q. refl; frames = tt }
-    go false true = record {
-      few = omega (arith, length-without (w .position) (d .pending), v .few);
-      silent = λ q. rw (v .silent q);
-      frames = frames-later 0 now (now + 1) (without (w .position) (d .pending)) (omega arith) (frames-without 0 now (w .position) (d .pending) (v .frames));
-    }
-    go false false = record { few = v .few; silent = v .silent; frames = frames-later 0 now (now + 1) (d .pending) (omega arith) (v .frames) }
+    go : (u : Bool) → Holds now d (cond u (without (w .position) (d .pending)) (d .pending))
+    go true =
+        record {
+          few = omega (arith, length-without (w .position) (d .pending), v .few);
+          silent = λ q. rw (v .silent q);
+          frames = frames-without 0 now (w .position) (d .pending) (v .frames);
+        }
+    go false = record { few = v .few; silent = v .silent; frames = v .frames }
 
--- the frames that are told
+-- the frames that stay pending after a round, and those that are told
+stay-valid : (now : ℕ) (d : Node) (w : Entry) (j : ℕ) → ValidNode now d → Holds now d (stay w j d)
+unfolding stay
+stay-valid now d w j v = go (drops w j d)
+  where
+    go : (t : Bool) → Holds now d (cond t [] (losers w j d))
+    go true = holds-none now d
+    go false = losers-valid now d w j v
+
 pub told-valid : (now : ℕ) (d : Node) (w : Entry) (j : ℕ) → ValidNode now d → ValidFrames 0 now (told w j d)
-unfolding told losers
-told-valid now d w j v = go (drops w j d) (eqb j (w .owner))
+unfolding told
+told-valid now d w j v = go (drops w j d)
   where
-    go : (t u : Bool) → ValidFrames 0 now (cond t (cond u (without (w .position) (d .pending)) (d .pending)) [])
-    go false u = tt
-    go true true = frames-without 0 now (w .position) (d .pending) (v .frames)
-    go true false = v .frames
+    go : (t : Bool) → ValidFrames 0 now (cond t (losers w j d) [])
+    go true = losers-valid now d w j v .frames
+    go false = tt
 
 -- every change keeps a node valid
 pub change-valid : {now later : ℕ} {clears : Bool} {call : Register → Update} {d d′ : Node}
@@ -211,12 +228,13 @@ unfolding settle
 change-valid still v = v
 change-valid (ignored id o) v = v
 change-valid {now} {d = d} (joined f on few vf e) v =
-    valid-pending v now (d .pending ++ f ∷ []) (rw length-append (omega arith)) (λ q. let z : _≡_ {A = ℕ} 0 1 = cc in absurd (omega arith))
+    valid-pending v now (d .pending ++ f ∷ []) (rw length-append (omega arith)) (λ q. false-is-true (sym on ∙ q))
     (frames-join 0 now (d .pending) f (omega arith) e vf (v .frames))
 change-valid {now} {d = d} (configured kind value l) v = configured-valid now d kind value l v
 change-valid {now} {d = d} (statusSet status l) v = status-valid now d status l v
 change-valid (answered op bytes r c room) v = valid-enqueue v bytes room
 change-valid {now} {d = d} (settled e w j l vf own room) v =
-    let s : Staying now d (stay w j d) = stay-valid now d w j v in
-    valid-enqueue (valid-pending v (now + 1) (stay w j d) (s .few) (s .silent) (s .frames)) (owed e w j d) room
+    let s = stay-valid now d w j v in
+    let later = frames-later 0 now (now + 1) (stay w j d) (omega arith) (s .frames) in
+    valid-enqueue (valid-pending v (now + 1) (stay w j d) (s .few) (s .silent) later) (owed e w j d) room
 change-valid collected v = valid-queue v [] (omega arith)

@@ -1,5 +1,5 @@
--- A frame that was accepted stays pending, with its acceptance round, until it is removed: what an accepted buffer and a collect
--- leave pending at every node. (Of a round: Rounds, `round-pending`; of a refused call: `refused-same`.)
+-- A frame that was accepted stays pending, with its acceptance round, until it is removed: what an accepted buffer and a
+-- collect leave pending at every node. (Of a round: Rounds, `round-pending`; of a refused call: `refused-same`.)
 -- Assumes nothing.
 use mathlib.Core.Path.{_≡_, refl, sym, _∙_, subst}
 use Prim.Native.Nat.{ℕ, _-_, _<_}
@@ -87,7 +87,11 @@ step-joined {b} {b′} {k} {clears} s =
       size = s .size;
       round = s .round;
       each =
-          by-number (λ j. j < length (b .nodes) → Joins (b .round) (cond (clears && eqb j k) [] (nodeAt b j .pending)) (nodeAt b′ j .pending)) k
+          by-number
+          (λ j.
+          j < length (b .nodes)
+          → Joins (b .round) (cond (clears && eqb j k) [] (nodeAt b j .pending)) (nodeAt b′ j .pending))
+          k
           (λ l. rw (eq-eqb k k refl) (own clears (change-joins (s .own) refl)))
           (λ j n l. rw (ne-eqb j k n) (other j clears (change-joins (s .others j l n) refl)));
     }
@@ -165,7 +169,9 @@ collect-outcome : {b : Bus} {k room : ℕ} {o : Outcome} → Came b (collection 
     → nodeAt (o .bus) j .pending ≡ nodeAt b j .pending
 collect-outcome (turnedDown r) = λ j l. refl
 collect-outcome {b} (handedOver k room h) =
-    by-number (λ j. j < length (b .nodes) → nodeAt (withNode b k (withQueue (nodeAt b k) [])) j .pending ≡ nodeAt b j .pending) k
+    by-number
+    (λ j. j < length (b .nodes) → nodeAt (withNode b k (withQueue (nodeAt b k) [])) j .pending ≡ nodeAt b j .pending)
+    k
     (λ l. rw (getD-set-same (b .nodes) k (withQueue (nodeAt b k) []) newNode h))
     (λ j n l. rw (getD-set-other (b .nodes) k j (withQueue (nodeAt b k) []) newNode n))
 

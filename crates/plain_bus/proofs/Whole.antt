@@ -56,7 +56,8 @@ front-append : {op : Operation} {n : ℕ} (s t : List ℕ) → front s ≡ Found
     → (front (s ++ t) ≡ Found op n) × (take n (s ++ t) ≡ take n s) × (drop n (s ++ t) ≡ drop n s ++ t)
 front-append {op} {n} s t e =
     let h : n ≤ length s = found e .within in (
-      ap front (ap (λ l. l ++ t) (sym (take-append-drop n s)) ∙ append-assoc (take n s) (drop n s) t) ∙ found-prefix s (drop n s ++ t) e,
+      ap front (ap (λ l. l ++ t) (sym (take-append-drop n s)) ∙ append-assoc (take n s) (drop n s) t)
+          ∙ found-prefix s (drop n s ++ t) e,
       take-append-le n s t h,
       drop-append-le n s t h,
     )
@@ -140,7 +141,8 @@ closing-append (fault number bytes ∷ is) js = closing-append is js
 closing-append (operation op bytes ∷ is) js = go (closes op) (closing-append is js)
   where
     go : (t : Bool) → closingIds (is ++ js) ≡ closingIds is ++ closingIds js
-        → cond t (idOf op ∷ closingIds (is ++ js)) (closingIds (is ++ js)) ≡ cond t (idOf op ∷ closingIds is) (closingIds is) ++ closingIds js
+        → cond t (idOf op ∷ closingIds (is ++ js)) (closingIds (is ++ js))
+        ≡ cond t (idOf op ∷ closingIds is) (closingIds is) ++ closingIds js
     go true e = ap (λ l. idOf op ∷ l) e
     go false e = e
 

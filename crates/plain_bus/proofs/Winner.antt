@@ -110,7 +110,8 @@ held-entries k i (f ∷ fs) y h = go (h .index) (h .position) (h .placed) (h .he
       where
         at : y .position ≡ i
         at = omega arith
-    go (suc j) p l e r = inr (r (record { index = j; owner = h .owner; position = omega arith; placed = omega arith; held = e }))
+    go (suc j) p l e r =
+        inr (r (record { index = j; owner = h .owner; position = omega arith; placed = omega arith; held = e }))
 
 -- the same of all nodes, from number k on
 record HeldFrom (k : ℕ) (ds : List Node) (y : Entry) : Type 0 where
@@ -120,7 +121,8 @@ record HeldFrom (k : ℕ) (ds : List Node) (y : Entry) : Type 0 where
 
 entries-from : (k : ℕ) (ds : List Node) (y : Entry) → Among y (entriesFrom k ds) → HeldFrom k ds y
 unfolding entriesFrom
-entries-from k (d ∷ ds) y a = go (among-either y (entriesOf k 0 (d .pending)) (entriesFrom (suc k) ds) a) (entries-from (suc k) ds y)
+entries-from k (d ∷ ds) y a =
+    go (among-either y (entriesOf k 0 (d .pending)) (entriesFrom (suc k) ds) a) (entries-from (suc k) ds y)
   where
     go : Among y (entriesOf k 0 (d .pending)) ⊎ Among y (entriesFrom (suc k) ds)
         → (Among y (entriesFrom (suc k) ds) → HeldFrom (suc k) ds y) → HeldFrom k (d ∷ ds) y
@@ -145,10 +147,16 @@ from-entries k (d ∷ ds) y h = go (h .number) (h .attached) (h .here) (from-ent
     go : (n : ℕ) → n < suc (length ds) → Held (k + n) 0 (getD (d ∷ ds) n newNode .pending) y
         → (HeldFrom (suc k) ds y → Among y (entriesFrom (suc k) ds))
         → Among y (entriesOf k 0 (d .pending) ++ entriesFrom (suc k) ds)
-    go zero l e r = among-left y (entriesOf k 0 (d .pending)) (entriesFrom (suc k) ds) (held-entries k 0 (d .pending) y (rw add-zero at e))
+    go zero l e r =
+        among-left y (entriesOf k 0 (d .pending)) (entriesFrom (suc k) ds) (held-entries k 0 (d .pending) y (rw add-zero at e))
     go (suc n) l e r =
         among-right y (entriesOf k 0 (d .pending)) (entriesFrom (suc k) ds)
-        (r (record { number = n; attached = omega arith; here = subst (λ (m : ℕ). Held m 0 (getD ds n newNode .pending) y) (omega arith) e }))
+        (r
+        (record {
+          number = n;
+          attached = omega arith;
+          here = subst (λ (m : ℕ). Held m 0 (getD ds n newNode .pending) y) (omega arith) e;
+        }))
 
 pending-entries : (b : Bus) (y : Entry) → Pending b y → Among y (entries b)
 pending-entries b y s =
@@ -214,7 +222,9 @@ winner-first b w e y s = go (goesBefore w y) refl
 
     go : (t : Bool) → goesBefore w y ≡ t → (y ≡ w) ⊎ (goesBefore w y ≡ true)
     go true q = inr q
-    go false q = let p : SamePlace y w = before-total y w least q in inl (one-place b y w s (winner-pending b w e) (p .owner) (p .position))
+    go false q =
+        let p : SamePlace y w = before-total y w least q in
+        inl (one-place b y w s (winner-pending b w e) (p .owner) (p .position))
 
 -- the first one is unique: what goes before every other is the winner
 pub winner-unique : (b : Bus) (w v : Entry) → winner b ≡ wins w → Pending b v

@@ -8,13 +8,13 @@ use lib.Dec.{leb, ltb}
 use lib.ListN.{length}
 use Rattle.operation.specs.Rules.{oneOf, errorCodes}
 use Rattle.decoder.specs.Stream.{itemsOf}
-use Rattle.plain_bus.specs.Held.{Bus, lastRound, isOff, newBus, attached, nodeAt, withNode, withQueue, everyNode, hasRoom}
+use Rattle.plain_bus.specs.Held.{Bus, lastRound, isOff, newBus, attached, nodeAt, withNode, withQueue, allHaveRoom}
 use Rattle.plain_bus.specs.Refusal.{Refusal, numberOf, badNodeCount, notAttached, bufferTooLong, badInjection, queueFull, roundsUsedUp, roomTooSmall}
 use Rattle.plain_bus.specs.Submit.{Step, done, fails, takeItems}
 use Rattle.plain_bus.specs.Order.{Winner, nobody, wins, winner}
 use Rattle.plain_bus.specs.Round.{Injection, noError, injected, isErrored, winnerId, owed, afterRound, age}
 
--- what a call answers; all but a refusal have number 0. A round that is carried out answers sender, ID, whether errored, and age
+-- what a call answers; a round that is carried out answers sender, ID, whether errored, and age
 pub data Answer : Type 0 where
   refused : Refusal → Answer
   accepted : Answer
@@ -85,7 +85,7 @@ wrongInjection b (injected code detector) =
 unfoldable pub arbitrate : Bus → Injection → Winner → Outcome
 arbitrate b e nobody = gives idle b
 arbitrate b e (wins w) =
-    cond (not (everyNode (λ j d. hasRoom d (owed e w j d)) 0 (b .nodes))) (refuses queueFull b)
+    cond (not (allHaveRoom (owed e w) b)) (refuses queueFull b)
     (cond (leb lastRound (b .round)) (refuses roundsUsedUp b)
     (gives (carried (w .owner) (winnerId w) (isErrored e) (age b w)) (afterRound e w b)))
 

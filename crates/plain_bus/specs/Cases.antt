@@ -34,8 +34,9 @@ wakeup = encode Wakeup []
 
 unfoldable pub cases : List Line
 cases =
-    -- a Bus-Off node's own faults are answered, its Transmits and Wakeups have no effect, and five of them are no 8
-    session 2 (submission 0 (off ++ standard 1 ++ standard 1 ++ standard 1 ++ standard 1 ++ standard 1 ++ wakeup ++ 1 ∷ 2 ∷ 3 ∷ []) ∷ [])
+    -- a Bus-Off node's own faults are answered, its Wakeups and Transmits have no effect, and five Transmits are not refused
+    session 2
+    (submission 0 (off ++ wakeup ++ standard 1 ++ standard 1 ++ standard 1 ++ standard 1 ++ standard 1 ++ 1 ∷ 2 ∷ 3 ∷ []) ∷ [])
     gives ends (accepted ∷ []) (0 ∷ 0 ∷ []) (w4 ∷ [] ∷ [])
     -- a fault of at least 4 bytes with the code of Format Error is not answered; the code is all four bytes
     ∷ session 2 (submission 0 (1 ∷ 0 ∷ 0 ∷ 0 ∷ []) ∷ submission 1 (1 ∷ 0 ∷ 0 ∷ 1 ∷ []) ∷ [])
@@ -43,7 +44,8 @@ cases =
     -- a Confirm that is submitted is answered with its complete bytes
     ∷ session 2 (submission 0 w2 ∷ []) gives ends (accepted ∷ []) (0 ∷ 0 ∷ []) (encode (FormatError 12) w2 ∷ [] ∷ [])
     -- a Wakeup goes to every other node that is not Bus-Off
-    ∷ session 3 (submission 2 off ∷ submission 0 wakeup ∷ []) gives ends (accepted ∷ accepted ∷ []) (0 ∷ 0 ∷ 0 ∷ []) ([] ∷ wakeup ∷ [] ∷ [])
+    ∷ session 3 (submission 2 off ∷ submission 0 wakeup ∷ [])
+    gives ends (accepted ∷ accepted ∷ []) (0 ∷ 0 ∷ 0 ∷ []) ([] ∷ wakeup ∷ [] ∷ [])
     -- Status Bus-Off removes the pending frames and empties the queue: no old Confirm stays
     ∷ session 2 (submission 0 (w1 ++ transmit16) ∷ round noError ∷ submission 0 off ∷ round noError ∷ [])
     gives ends (accepted ∷ carried 0 15 false 0 ∷ accepted ∷ idle ∷ []) (0 ∷ 0 ∷ []) ([] ∷ w1 ∷ [])
@@ -55,20 +57,28 @@ cases =
     ∷ session 2 (submission 0 (discarding ++ standard 9 ++ standard 7 ++ standard 8) ∷ round noError ∷ [])
     gives ends (accepted ∷ carried 0 7 false 0 ∷ []) (0 ∷ 0 ∷ []) ((confirm 7 ++ lost 9 ++ lost 8) ∷ standard 7 ∷ [])
     -- equal IDs, standard or extended, go by node, then by acceptance; a frame that loses keeps its acceptance round
-    ∷ session 2 (submission 1 (standard 5 ++ standard 5) ∷ submission 0 (extended 5) ∷ round noError ∷ round noError ∷ round noError ∷ [])
+    ∷ session 2
+    (submission 1 (standard 5 ++ standard 5) ∷ submission 0 (extended 5) ∷ round noError ∷ round noError ∷ round noError ∷ [])
     gives ends (accepted ∷ accepted ∷ carried 0 5 false 0 ∷ carried 1 5 false 1 ∷ carried 1 5 false 2 ∷ []) (0 ∷ 0 ∷ [])
     ((confirm 5 ++ standard 5 ++ standard 5) ∷ (extended 5 ++ confirm 5 ++ confirm 5) ∷ [])
     -- 6 before idle: a code outside the table, a node that is not attached, one that is Bus-Off
-    ∷ session 2 (submission 1 off ∷ round (injected 7 0) ∷ round (injected 1 2) ∷ round (injected 1 1) ∷ round (injected 1 0) ∷ [])
-    gives ends (accepted ∷ refused badInjection ∷ refused badInjection ∷ refused badInjection ∷ idle ∷ []) (0 ∷ 0 ∷ []) ([] ∷ [] ∷ [])
-    -- collecting gives the queue and empties it; a buffer too small changes nothing
-    ∷ session 2 (submission 0 (1 ∷ 2 ∷ 3 ∷ []) ∷ collection 0 12 ∷ collection 0 13 ∷ collection 0 0 ∷ collection 2 9 ∷ submission 2 [] ∷ [])
-    gives ends (accepted ∷ refused roomTooSmall ∷ collected w4 ∷ collected [] ∷ refused notAttached ∷ refused notAttached ∷ []) (0 ∷ 0 ∷ []) ([] ∷ [] ∷ [])
+    ∷ session 2
+    (submission 1 off ∷ round (injected 7 0) ∷ round (injected 1 2) ∷ round (injected 1 1) ∷ round (injected 1 0) ∷ [])
+    gives ends (accepted ∷ refused badInjection ∷ refused badInjection ∷ refused badInjection ∷ idle ∷ []) (0 ∷ 0 ∷ [])
+    ([] ∷ [] ∷ [])
+    -- collecting gives the queue and empties it; a buffer too small, or a node that is not attached, changes nothing
+    ∷ session 2
+    (submission 0 (1 ∷ 2 ∷ 3 ∷ []) ∷ collection 0 12 ∷ collection 0 13 ∷ collection 0 0 ∷ collection 2 9 ∷ submission 2 [] ∷ [])
+    gives ends
+    (accepted ∷ refused roomTooSmall ∷ collected w4 ∷ collected [] ∷ refused notAttached ∷ refused notAttached ∷ [])
+    (0 ∷ 0 ∷ []) ([] ∷ [] ∷ [])
     -- the first failing step decides, and nothing is taken: a fifth Transmit before a Status Bus-Off
-    ∷ session 2 (submission 0 (standard 1 ++ standard 1 ++ standard 1 ++ standard 1) ∷ submission 0 (w2 ++ standard 1 ++ off) ∷ [])
+    ∷ session 2
+    (submission 0 (standard 1 ++ standard 1 ++ standard 1 ++ standard 1) ∷ submission 0 (w2 ++ standard 1 ++ off) ∷ [])
     gives ends (accepted ∷ refused fourPending ∷ []) (4 ∷ 0 ∷ []) ([] ∷ [] ∷ [])
     -- a Bus Error meant for another sender with the same ID closes nothing; Bus-Off empties the register
-    ∷ registered 3 (submission 0 (standard 5) ∷ submission 1 (standard 5) ∷ submission 2 (standard 6) ∷ submission 2 off
+    ∷ registered 3
+    (submission 0 (standard 5) ∷ submission 1 (standard 5) ∷ submission 2 (standard 6) ∷ submission 2 off
     ∷ round (injected 1 0) ∷ collection 0 99 ∷ collection 1 99 ∷ [])
     gives opens true ([] ∷ (5 ∷ []) ∷ [] ∷ [])
     ∷ []
@@ -83,9 +93,11 @@ zeros n = replicate n 0
 unfoldable pub fullQueue : List Line
 fullQueue =
     session 2
-    (submission 0 (zeros 4_087) ∷ submission 0 (zeros 4_086) ∷ submission 0 (w2 ++ off) ∷ submission 1 wakeup ∷ submission 1 w1 ∷ round noError ∷ [])
-    gives ends (refused bufferTooLong ∷ accepted ∷ refused queueFull ∷ refused queueFull ∷ accepted ∷ refused queueFull ∷ []) (0 ∷ 1 ∷ [])
-    (encode (FormatError 4_086) (zeros 4_086) ∷ [] ∷ [])
+    (submission 0 (zeros 4_087) ∷ submission 0 (zeros 4_086) ∷ submission 0 (w2 ++ off) ∷ submission 1 wakeup
+    ∷ submission 1 w1 ∷ round noError ∷ [])
+    gives ends
+    (refused bufferTooLong ∷ accepted ∷ refused queueFull ∷ refused queueFull ∷ accepted ∷ refused queueFull ∷ [])
+    (0 ∷ 1 ∷ []) (encode (FormatError 4_086) (zeros 4_086) ∷ [] ∷ [])
     ∷ []
 
 abbrev pub FullQueueHolds : Type 0

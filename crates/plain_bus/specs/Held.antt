@@ -119,5 +119,9 @@ everyNode test k (d ∷ ds) = test k d && everyNode test (suc k) ds
 abbrev pub hasRoom : Node → List ℕ → Bool
 hasRoom d bytes = leb (length (d .queue) + length bytes) queueCapacity
 
+-- every node's queue has room for its part, by the node's number
+abbrev pub allHaveRoom : (ℕ → Node → List ℕ) → Bus → Bool
+allHaveRoom part b = everyNode (λ j d. hasRoom d (part j d)) 0 (b .nodes)
+
 abbrev pub enqueue : Node → List ℕ → Node
 enqueue d bytes = withQueue d (d .queue ++ bytes)

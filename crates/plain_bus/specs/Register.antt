@@ -10,7 +10,7 @@ use Rattle.operation.specs.declared.Operation.the-variants.{FormatError, CanTra
 use Rattle.decoder.specs.Stream.{Item, operation, fault, itemsOf}
 use Rattle.plain_bus.specs.Kinds.{idOf, closes}
 use Rattle.plain_bus.specs.Held.{busOff}
-use Rattle.plain_bus.specs.Refusal.{Refusal, invalid, registerFull, registerDiffers}
+use Rattle.plain_bus.specs.Refusal.{Refusal, numberOf, invalid, registerFull, registerDiffers}
 
 -- the open ID numbers, repeats allowed, and whether the node is Bus-Off
 pub record Register : Type 0 where
@@ -44,6 +44,11 @@ validRegister r =
 pub data Update : Type 0 where
   updated : Register → Update
   rejected : Refusal → Update
+
+-- the number that 01 gives
+abbrev pub updateNumber : Update → ℕ
+updateNumber (updated r) = 0
+updateNumber (rejected x) = numberOf x
 
 -- a step an item, one by one: the first that is rejected decides
 unfoldable pub updates : (Register → Item → Update) → List Item → Update → Update

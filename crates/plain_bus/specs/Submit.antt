@@ -10,7 +10,7 @@ use Rattle.operation.specs.Format.{encode}
 use Rattle.operation.specs.declared.Operation.{Operation}
 use Rattle.operation.specs.declared.Operation.the-variants.{FormatError, CanTransmit, FdTransmit, XlTransmit, Confirm, ArbitrationLost, BusError, Configuration, Status, Wakeup}
 use Rattle.decoder.specs.Stream.{Item, operation, fault}
-use Rattle.plain_bus.specs.Held.{Frame, Node, Bus, maxPending, busOff, isOff, withStatus, withBehaviour, withRates, withPending, withQueue, withNodes, withNode, nodeAt, eachNode, everyNode, hasRoom, enqueue}
+use Rattle.plain_bus.specs.Held.{Frame, Node, Bus, maxPending, busOff, isOff, withStatus, withBehaviour, withRates, withPending, withQueue, withNodes, withNode, nodeAt, eachNode, hasRoom, allHaveRoom, enqueue}
 use Rattle.plain_bus.specs.Refusal.{Refusal, fourPending, queueFull}
 
 -- what a step gives: the bus after it, or the refusal
@@ -43,12 +43,13 @@ setStatus d status = withStatus (cond (eqb status busOff) (cleared d) d) status
 abbrev pub wakeupFor : ℕ → ℕ → Node → List ℕ
 wakeupFor k j d = cond (eqb j k || isOff d) [] (encode Wakeup [])
 
+abbrev pub wake : ℕ → ℕ → Node → Node
+wake k j d = enqueue d (wakeupFor k j d)
+
 unfoldable pub takeWakeup : Bus → ℕ → Step
 takeWakeup b k =
     cond (isOff (nodeAt b k)) (done b)
-    (cond (everyNode (λ j d. hasRoom d (wakeupFor k j d)) 0 (b .nodes))
-    (done (withNodes b (eachNode (λ j d. enqueue d (wakeupFor k j d)) 0 (b .nodes))))
-    (fails queueFull))
+    (cond (allHaveRoom (wakeupFor k) b) (done (withNodes b (eachNode (wake k) 0 (b .nodes)))) (fails queueFull))
 
 -- a Format Error with the complete bytes of what it answers
 abbrev pub formatError : List ℕ → List ℕ

@@ -18,11 +18,12 @@ use Rattle.plain_bus.specs.Held.{Frame, Node, Bus, maxPending, queueCapa
 abbrev pub ReadsWhole : Operation → List ℕ → Type 0
 ReadsWhole op bytes = front bytes ≡ Found op (length bytes)
 
+-- a pending frame is a Transmit and meets the content rules
 pub record ValidFrame (f : Frame) : Type 0 where
   pub transmit : isTransmit (f .op) ≡ true
   pub reads : ReadsWhole (f .op) (f .bytes)
 
--- the frames are valid, their acceptance rounds do not fall, and none is below `low` or above `now`
+-- one node's pending frames, oldest first: their acceptance rounds do not fall, and none is below `low` or above `now`
 abbrev pub ValidFrames : ℕ → ℕ → List Frame → Type 0
 ValidFrames low now [] = Unit {0}
 ValidFrames low now (f ∷ fs) = ValidFrame f × (low ≤ f .accepted) × (f .accepted ≤ now) × ValidFrames (f .accepted) now fs
@@ -31,7 +32,8 @@ abbrev pub NonZero : List ℕ → Type 0
 NonZero [] = Unit {0}
 NonZero (x ∷ xs) = (1 ≤ x) × NonZero xs
 
--- a node at the round number `now`
+-- a node at the round number `now`: status, behaviour and the three baud rates are allowed, the queue is filled to at most
+-- its capacity, there are no more pending frames than allowed and none when Bus-Off, and these are valid
 pub record ValidNode (now : ℕ) (d : Node) : Type 0 where
   pub status : oneOf (d .status) statuses ≡ true
   pub behaviour : oneOf (d .behaviour) behaviours ≡ true
@@ -42,13 +44,14 @@ pub record ValidNode (now : ℕ) (d : Node) : Type 0 where
   pub silent : isOff d ≡ true → d .pending ≡ []
   pub frames : ValidFrames 0 now (d .pending)
 
+-- 2 to 8 attached nodes, all valid, and a round number that is not too high
 pub record Valid (b : Bus) : Type 0 where
   pub least : 2 ≤ length (b .nodes)
   pub most : length (b .nodes) ≤ 8
   pub round : b .round ≤ lastRound
   pub each : (k : ℕ) → k < length (b .nodes) → ValidNode (b .round) (nodeAt b k)
 
--- ---- what 01 does not ask of a state, and what yet holds from the start on: queues are sequences of whole operations
+-- ---- not asked of a state by 01, and true from the start on: every queue is a sequence of whole operations
 
 unfoldable pub noFault : List Item → Bool
 noFault [] = true
