@@ -1,77 +1,65 @@
--- What the bus itself writes reads as what was written.
+-- What the bus itself writes reads as what was written, and as nothing more.
 -- Assumes nothing.
 use mathlib.Core.Path.{_≡_, refl, sym, ap, _∙_}
 use Prim.Native.Nat.{ℕ, _+_, _≤_, _<_}
 use native.Mathlib.Omega.{arith}
-use mathlib.Core.List.{List, []}
-use mathlib.Core.Bool.{true}
-use lib.Dec.{lit<, lit≤}
+use mathlib.Core.List.{List, [], _∷_, append-nil}
+use mathlib.Core.Bool.{Bool, true, false, _||_}
+use lib.Dec.{leb, eqb, lit<}
 use lib.ListN.{length}
-use lib.Seq.{take-length}
-use borrow.Author.Tests.{le-leb, eq-eqb, leb-true}
-use Rattle.operation.specs.Number.{numberAt}
-use Rattle.operation.specs.Format.{header, encode, codeOf, dataLength, headLength, lengthOf}
-use Rattle.operation.specs.Rules.{maxExtendedId, legal, rules, allAfter}
+use borrow.Author.Tests.{le-leb, leb-true, eqb-true}
+use Rattle.operation.specs.Format.{encode, dataLength, headLength, lengthOf, Typed}
+use Rattle.operation.specs.Rules.{allAfter, oneOf, maxExtendedId, errorCodes, errorFlags, rules, legal}
 use Rattle.operation.specs.declared.Operation.{Operation}
 use Rattle.operation.specs.declared.Operation.the-variants.{FormatError, Confirm, ArbitrationLost, BusError, Wakeup}
-use Rattle.operation.proofs.Numbers.{number-back}
-use Rattle.operation.proofs.Sizes.{encode-length, head-least, head-small}
-use Rattle.operation.proofs.Tests.{passed}
-use Rattle.decoder.specs.Front.{holds, kindOf, shapeOf, verdict, judge, decode, statedLength}
-use Rattle.decoder.proofs.Found.{front-is}
+use Rattle.operation.proofs.Sizes.{encode-length}
+use Rattle.operation.proofs.Tests.{false-is-true, both, passed}
+use Rattle.decoder.specs.Front.{front}
+use Rattle.decoder.specs.declared.Front.the-variants.{Found}
+use Rattle.decoder.proofs.Encoded.{encoded}
 use Rattle.plain_bus.specs.Valid.{ReadsWhole}
+use Rattle.plain_bus.specs.Register.{noneAbove}
 
--- bytes of the length that they state, whose fields make an operation of that length, read as it
-reads : (s : List ℕ) (op : Operation) (least : ℕ) → 8 ≤ length s → statedLength s ≡ length s
-    → shapeOf (kindOf (numberAt 4 s 0)) s ≡ holds least op
-    → least ≤ length s → length s ≡ lengthOf op → legal op ≡ true → ReadsWhole op s
-unfolding decode judge verdict
-reads s op least h stated shape enough sized lawful =
-    front-is s (length s) h (omega arith) stated
-    ∙ ap decode (take-length s)
-    ∙ rw (shape, le-leb least (length s) enough, eq-eqb (length s) (lengthOf op) sized, lawful)
-
--- where an operation's fields are read back, so is the operation
-written : (op : Operation) (payload : List ℕ) (least : ℕ) → legal op ≡ true → length payload ≡ dataLength op
-    → dataLength op < 65_536
-    → codeOf op < 4_294_967_296 → shapeOf (kindOf (codeOf op)) (encode op payload) ≡ holds least op
-    → least ≤ lengthOf op → ReadsWhole op (encode op payload)
-unfolding header encode
-written op payload least l p small c h e =
+written : (op : Operation) (payload : List ℕ) → Typed op → legal op ≡ true → length payload ≡ dataLength op
+    → dataLength op < 65_536 → ReadsWhole op (encode op payload)
+written op payload ty l p small =
     let size : length (encode op payload) ≡ lengthOf op = encode-length op payload l ∙ ap (λ (n : ℕ). headLength op + n) p in
-    let stated : statedLength (encode op payload) ≡ lengthOf op =
-    number-back 4 (lengthOf op) (omega (arith, head-small op)) in
-    let code : numberAt 4 (encode op payload) 0 ≡ codeOf op = number-back 4 (codeOf op) c in
-    reads (encode op payload) op least (omega (arith, head-least op l)) (stated ∙ sym size)
-    (ap (λ (n : ℕ). shapeOf (kindOf n) (encode op payload)) code ∙ h) (omega arith) size l
+    ap front (sym (append-nil (encode op payload))) ∙ encoded op payload [] ty l p small ∙ ap (Found op) (sym size)
 
 pub reads-confirm : (id : ℕ) → id ≤ maxExtendedId → ReadsWhole (Confirm id) (encode (Confirm id) [])
-unfolding header encode shapeOf legal rules allAfter
-reads-confirm id h =
-    written (Confirm id) [] 12 (le-leb id maxExtendedId h) refl (lit< tt) (lit< tt)
-    (ap (λ (x : ℕ). holds 12 (Confirm x)) (number-back 4 id (omega arith))) (lit≤ tt)
+unfolding legal rules allAfter
+reads-confirm id h = written (Confirm id) [] (omega arith) (le-leb id maxExtendedId h) refl (lit< tt)
 
 pub reads-lost : (id : ℕ) → id ≤ maxExtendedId → ReadsWhole (ArbitrationLost id) (encode (ArbitrationLost id) [])
-unfolding header encode shapeOf legal rules allAfter
-reads-lost id h =
-    written (ArbitrationLost id) [] 12 (le-leb id maxExtendedId h) refl (lit< tt) (lit< tt)
-    (ap (λ (x : ℕ). holds 12 (ArbitrationLost x)) (number-back 4 id (omega arith))) (lit≤ tt)
+unfolding legal rules allAfter
+reads-lost id h = written (ArbitrationLost id) [] (omega arith) (le-leb id maxExtendedId h) refl (lit< tt)
+
+-- one of some numbers is no higher than they are
+one-low : (x m : ℕ) (ys : List ℕ) → oneOf x ys ≡ true → noneAbove m ys ≡ true → x ≤ m
+unfolding oneOf noneAbove
+one-low x m [] e a = false-is-true e
+one-low x m (y ∷ ys) e a = go (eqb x y) refl e (both _ _ a) (one-low x m ys)
+  where
+    go : (t : Bool) → eqb x y ≡ t → (t || oneOf x ys) ≡ true → (leb y m ≡ true) × (noneAbove m ys ≡ true)
+        → (oneOf x ys ≡ true → noneAbove m ys ≡ true → x ≤ m) → x ≤ m
+    go true q e b r = omega (arith, eqb-true x y q, leb-true y m (b .0))
+    go false q e b r = r e (b .1)
 
 pub reads-bus-error : (id code flag sender : ℕ) → legal (BusError id code flag sender) ≡ true
     → ReadsWhole (BusError id code flag sender) (encode (BusError id code flag sender) [])
-unfolding header encode shapeOf legal rules
+unfolding legal rules noneAbove
 reads-bus-error id code flag sender l =
-    let low : id ≤ maxExtendedId = leb-true id maxExtendedId (passed _ l 0) in
-    written (BusError id code flag sender) [] 15 l refl (lit< tt) (lit< tt)
-    (ap (λ (x : ℕ). holds 15 (BusError x code flag sender)) (number-back 4 id (omega arith))) (lit≤ tt)
+    let a = leb-true id maxExtendedId (passed _ l 0) in
+    let b = one-low code 6 errorCodes (passed _ l 1) refl in
+    let c = one-low flag 2 errorFlags (passed _ l 2) refl in
+    let d = leb-true sender 1 (passed _ l 3) in
+    written (BusError id code flag sender) [] (omega arith) l refl (lit< tt)
 
 pub reads-format-error : (bytes : List ℕ) → length bytes < 65_536
     → ReadsWhole (FormatError (length bytes)) (encode (FormatError (length bytes)) bytes)
-unfolding header encode shapeOf legal rules allAfter
-reads-format-error bytes h =
-    written (FormatError (length bytes)) bytes 10 refl refl h (lit< tt)
-    (ap (λ (x : ℕ). holds 10 (FormatError x)) (number-back 2 (length bytes) (omega arith))) (omega arith)
+unfolding legal rules allAfter
+reads-format-error bytes h = written (FormatError (length bytes)) bytes h refl refl h
 
 pub reads-wakeup : ReadsWhole Wakeup (encode Wakeup [])
-unfolding header encode shapeOf legal rules allAfter
-reads-wakeup = written Wakeup [] 8 refl refl (lit< tt) (lit< tt) refl (lit≤ tt)
+unfolding legal rules allAfter
+reads-wakeup = written Wakeup [] tt refl refl (lit< tt)
