@@ -15,7 +15,7 @@ use Rattle.plain_bus.specs.Submit.{Step, done, fails, takeItem, takeItem
 use Rattle.plain_bus.specs.Round.{afterRound}
 use Rattle.plain_bus.specs.Calls.{Outcome, start}
 use Rattle.plain_bus.specs.Register.{Register, newRegister, Update, updated, rejected, updates, enterItem, enter, read}
-use Rattle.plain_bus.specs.Session.{Call, submission, round, collection, call, Registers, keep, followUp, World, opening, after, run, count, pendingIds, closingIds, Demand3}
+use Rattle.plain_bus.specs.Session.{Call, submission, round, collection, call, calls, Registers, keep, followUp, World, opening, after, run, count, pendingIds, closingIds, Demand3}
 use Rattle.plain_bus.proofs.Whole.{ValidItems, items-nil, items-valid}
 use Rattle.plain_bus.proofs.Winner.{winner-pending}
 use Rattle.plain_bus.proofs.Tally.{Tally, register-valid, change-tally}
@@ -133,6 +133,12 @@ pub run-good : (cs : List Call) (w : World) → Good w → Good (run cs w)
 unfolding run
 run-good [] w g = g
 run-good (c ∷ cs) w g = run-good cs _ (outcome-good w c (call (w .bus) c) (came (w .bus) c) g)
+
+-- the bus with its registers goes as the bus alone
+pub run-bus : (cs : List Call) (w : World) → run cs w .bus ≡ calls cs (w .bus)
+unfolding run calls after
+run-bus [] w = refl
+run-bus (c ∷ cs) w = run-bus cs (after w c (call (w .bus) c))
 
 -- ---- the start, and the claim
 

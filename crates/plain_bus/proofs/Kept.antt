@@ -167,3 +167,7 @@ start-valid {n} {b} s =
           };
       whole = λ k h. rw (start-node s k h) whole-nil;
     }
+
+-- and so is the bus after any list of calls from there on
+pub session-valid : (n : ℕ) → start n .answer ≡ accepted → (cs : List Call) → ValidWhole (calls cs (start n .bus))
+session-valid n e cs = calls-keep ValidWhole (λ b p. p .valid) step-whole cs (start n .bus) (start-valid (started n e))
