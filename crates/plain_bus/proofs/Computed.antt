@@ -12,8 +12,8 @@ use Rattle.plain_bus.specs.Round.{newsFor, without, losers, lostNotices,
 use Rattle.plain_bus.specs.Calls.{start, submit, wrongInjection, arbitrate, runRound, collect}
 use Rattle.plain_bus.specs.Register.{noneAbove, validRegister, updates, openId, withOff, noteStatus, enterItem, enter, isOpen, remove, closeId, readItem, read}
 use Rattle.plain_bus.specs.Session.{call, calls, answers, keep, followUp, opening, after, run}
-use Rattle.plain_bus.specs.Examples.{pendingCounts, queues, openIds, reply, computed, expected, table, W1toW10}
-use Rattle.plain_bus.specs.Cases.{cases, CasesHold, fullQueue, FullQueueHolds}
+use Rattle.plain_bus.specs.Examples.{pendingCounts, queues, numbersOf, settingsOf, openIds, reply, computed, expected, table, W1toW10}
+use Rattle.plain_bus.specs.Cases.{cases, CasesHold, longCases, LongCasesHold}
 
 -- to name one of these is to open what it names: reading and writing, the bus, the register, sessions and tables
 codec : Unit {0}
@@ -41,7 +41,7 @@ unfolding noneAbove validRegister updates openId withOff noteStatus enterItem en
 register = tt
 
 sessions : Unit {0}
-unfolding codec bus register call calls answers keep followUp opening after run pendingCounts queues openIds reply computed expected
+unfolding codec bus register call calls answers keep followUp opening after run pendingCounts queues numbersOf settingsOf openIds reply computed expected
 sessions = tt
 
 pub w1-to-w10 : W1toW10
@@ -52,6 +52,6 @@ pub cases-hold : CasesHold
 unfolding sessions cases
 cases-hold = refl
 
-pub full-queue-holds : FullQueueHolds
-unfolding sessions fullQueue
-full-queue-holds = refl
+pub long-cases-hold : LongCasesHold
+unfolding sessions longCases
+long-cases-hold = refl

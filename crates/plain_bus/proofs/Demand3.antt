@@ -15,7 +15,7 @@ use Rattle.plain_bus.specs.Submit.{Step, done, fails, takeItem, takeItem
 use Rattle.plain_bus.specs.Round.{afterRound}
 use Rattle.plain_bus.specs.Calls.{Outcome, start}
 use Rattle.plain_bus.specs.Register.{Register, newRegister, Update, updated, rejected, updates, enterItem, enter, read}
-use Rattle.plain_bus.specs.Session.{Call, submission, round, collection, call, calls, Registers, keep, followUp, World, opening, after, run, count, pendingIds, closingIds, Demand3}
+use Rattle.plain_bus.specs.Session.{Call, submission, round, collection, call, calls, Registers, keep, followUp, World, opening, after, run, count, pendingIds, closingIds, allZero, Demand3}
 use Rattle.plain_bus.proofs.Whole.{ValidItems, items-nil, items-valid}
 use Rattle.plain_bus.proofs.Winner.{winner-pending}
 use Rattle.plain_bus.proofs.Tally.{Tally, register-valid, change-tally}
@@ -95,11 +95,11 @@ items-agree k (i ∷ is) b b′ rs v h a e = go (takeItem b k i) refl e (λ c qs
 
 pub record Good (w : World) : Type 0 where
   pub agree : Agree (w .bus) (w .registers .each)
-  pub allDone : w .registers .allDone ≡ true
+  pub allDone : allZero (w .registers .answers) ≡ true
 
-keep-good : (b : Bus) (rs : Registers) (k : ℕ) (u : Update) → rs .allDone ≡ true → Done b (rs .each) k u
+keep-good : (b : Bus) (rs : Registers) (k : ℕ) (u : Update) → allZero (rs .answers) ≡ true → Done b (rs .each) k u
     → Good (record { bus = b; registers = keep rs k u })
-unfolding keep
+unfolding keep allZero
 keep-good b rs k (updated x) g r =
     let same : x ≡ r .register = cc (r .result) in
     record { agree = rw same (r .agree); allDone = g }
@@ -147,7 +147,7 @@ unfolding count pendingIds closingIds
 new-tally = record { counts = λ p. rw items-nil; flag = refl; shut = λ q. refl }
 
 pub opening-good : {n : ℕ} (b : Bus) → Started n b → Good (opening b)
-unfolding opening
+unfolding opening allZero
 opening-good b s =
     record {
       agree =

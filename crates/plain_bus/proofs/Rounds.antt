@@ -7,12 +7,12 @@ use native.Mathlib.Omega.{arith}
 use mathlib.Core.Bool.{Bool, true, false}
 use mathlib.Core.List.{List, [], _∷_, _++_}
 use lib.ListN.{length}
-use borrow.Author.Tests.{eq-eqb, ne-eqb}
-use Rattle.plain_bus.specs.Held.{Frame, Node, Bus, discards, nodeAt}
-use Rattle.plain_bus.specs.Refusal.{Refusal}
+use borrow.Author.Tests.{eq-eqb, ne-eqb, le-leb, lt-leb}
+use Rattle.plain_bus.specs.Held.{Frame, Node, Bus, lastRound, discards, nodeAt, allHaveRoom}
+use Rattle.plain_bus.specs.Refusal.{Refusal, roundsUsedUp}
 use Rattle.plain_bus.specs.Order.{Entry, wins, winner}
 use Rattle.plain_bus.specs.Round.{Injection, isErrored, winnerId, without, losers, drops, stay, owed, settle, afterRound, age}
-use Rattle.plain_bus.specs.Calls.{refused, idle, carried, Outcome}
+use Rattle.plain_bus.specs.Calls.{refused, idle, carried, Outcome, gives, refuses, wrongInjection, arbitrate, runRound}
 use Rattle.plain_bus.specs.Valid.{Valid}
 use Rattle.plain_bus.specs.Session.{Call, round, call}
 use Rattle.plain_bus.proofs.Nodes.{each-at}
@@ -45,6 +45,18 @@ pub idle-same : (b : Bus) (c : Call) → call b c .answer ≡ idle → call b c 
 idle-same b c q = idle-outcome (came b c) q
 
 -- ---- the answer of a round
+
+module _ (b : Bus) (e : Injection) (w : Entry) (l : wrongInjection b e ≡ false) (q : winner b ≡ wins w)
+    (room : allHaveRoom (owed e w) b ≡ true) where
+  -- with room in every queue, a round is carried out at every round number but the largest, where it is refused by 10
+  pub round-done : b .round < 4_294_967_295
+      → call b (round e) ≡ gives (carried (w .owner) (winnerId w) (isErrored e) (age b w)) (afterRound e w b)
+  unfolding call runRound arbitrate
+  round-done h = rw (l, q, room, lt-leb lastRound (b .round) h)
+
+  pub round-last : b .round ≡ 4_294_967_295 → call b (round e) ≡ refuses roundsUsedUp b
+  unfolding call runRound arbitrate
+  round-last h = rw (l, q, room, le-leb lastRound (b .round) (omega arith))
 
 -- there was a winner; the answer names its node, its ID, whether an error was injected, and its age; the bus is that after
 -- the round

@@ -15,26 +15,31 @@ use Rattle.decoder.specs.declared.Front.the-variants.{Fault}
 use Rattle.plain_bus.specs.Held.{Node, Bus}
 use Rattle.plain_bus.specs.Refusal.{fourPending}
 use Rattle.plain_bus.specs.Round.{noError}
-use Rattle.plain_bus.specs.Calls.{Answer, refused, accepted, carried, start}
-use Rattle.plain_bus.specs.Register.{Register}
-use Rattle.plain_bus.specs.Session.{Call, submission, round, calls, answers, World, opening, run}
+use Rattle.plain_bus.specs.Calls.{Answer, refused, accepted, carried, answerNumber, start}
+use Rattle.plain_bus.specs.Register.{Register, Update, updateNumber, registerAfter, enter, read}
+use Rattle.plain_bus.specs.Session.{Call, submission, round, calls, answers, Registers, opening, run}
 
 -- what a line asks: the bytes of an operation; whether it meets the content rules; what stands at the front of some bytes;
--- how a session of so many nodes ends; what the registers have open after it
+-- of a session of so many nodes, how it ends, or the numbers of its answers, or the settings at its end, or what the registers
+-- have open; what entering, or reading, some bytes does to a register
 pub data Question : Type 0 where
   written : Operation → List ℕ → Question
   isLegal : Operation → Question
   frontOf : List ℕ → Question
-  session : ℕ → List Call → Question
-  registered : ℕ → List Call → Question
+  session numbered settled registered : ℕ → List Call → Question
+  entering reading : Register → List ℕ → Question
 
--- of a session: the calls' answers, then for each node how many frames are pending, and its queue
+-- the end of a session: the calls' answers, then for each node how many frames are pending, and its queue;
+-- numbers: of the start, then of each call; settings: each node's status, behaviour and baud rates;
+-- open IDs: the register calls' numbers, newest first, then each register's IDs
 pub data Reply : Type 0 where
   bytes : List ℕ → Reply
   truth : Bool → Reply
   stands : Front → Reply
   ends : List Answer → List ℕ → List (List ℕ) → Reply
-  opens : Bool → List (List ℕ) → Reply
+  numbers : List ℕ → Reply
+  settings : List (List ℕ) → Reply
+  opens : List ℕ → List (List ℕ) → Reply
 
 unfoldable pub pendingCounts : List Node → List ℕ
 pendingCounts [] = []
@@ -44,6 +49,14 @@ unfoldable pub queues : List Node → List (List ℕ)
 queues [] = []
 queues (d ∷ ds) = d .queue ∷ queues ds
 
+unfoldable pub numbersOf : List Answer → List ℕ
+numbersOf [] = []
+numbersOf (a ∷ rest) = answerNumber a ∷ numbersOf rest
+
+unfoldable pub settingsOf : List Node → List (List ℕ)
+settingsOf [] = []
+settingsOf (d ∷ ds) = (d .status ∷ d .behaviour ∷ d .rates) ∷ settingsOf ds
+
 unfoldable pub openIds : List Register → List (List ℕ)
 openIds [] = []
 openIds (r ∷ rs) = r .opened ∷ openIds rs
@@ -51,15 +64,22 @@ openIds (r ∷ rs) = r .opened ∷ openIds rs
 abbrev pub atEnd : List Answer → Bus → Reply
 atEnd given b = ends given (pendingCounts (b .nodes)) (queues (b .nodes))
 
-abbrev pub inWorld : World → Reply
-inWorld w = opens (w .registers .allDone) (openIds (w .registers .each))
+abbrev pub inRegisters : Registers → Reply
+inRegisters rs = opens (rs .answers) (openIds (rs .each))
+
+abbrev pub inRegister : Register → Update → Reply
+inRegister r u = opens (updateNumber u ∷ []) (registerAfter r u .opened ∷ [])
 
 unfoldable pub reply : Question → Reply
 reply (written op payload) = bytes (encode op payload)
 reply (isLegal op) = truth (legal op)
 reply (frontOf s) = stands (front s)
 reply (session n cs) = atEnd (answers cs (start n .bus)) (calls cs (start n .bus))
-reply (registered n cs) = inWorld (run cs (opening (start n .bus)))
+reply (numbered n cs) = numbers (answerNumber (start n .answer) ∷ numbersOf (answers cs (start n .bus)))
+reply (settled n cs) = settings (settingsOf (calls cs (start n .bus) .nodes))
+reply (registered n cs) = inRegisters (run cs (opening (start n .bus)) .registers)
+reply (entering r s) = inRegister r (enter r s)
+reply (reading r s) = inRegister r (read r s)
 
 -- ---- a table of questions, each with the reply that is expected
 
@@ -124,6 +144,7 @@ table =
     ((w2 ++ transmit16) ∷ (w1 ++ confirm16) ∷ (w1 ++ transmit16) ∷ [])
     ∷ session 2 (submission 0 (transmit16 ++ transmit16 ++ transmit16 ++ transmit16 ++ transmit16) ∷ [])
     gives ends (refused fourPending ∷ []) (0 ∷ 0 ∷ []) ([] ∷ [] ∷ [])
+    ∷ numbered 2 (submission 0 (transmit16 ++ transmit16 ++ transmit16 ++ transmit16 ++ transmit16) ∷ []) gives numbers (0 ∷ 8 ∷ [])
     ∷ isLegal (CanTransmit 2_047 0 0 0) gives truth true
     ∷ isLegal (CanTransmit 2_048 0 0 0) gives truth false
     ∷ isLegal (FdTransmit 536_870_911 1 0 0 0) gives truth true

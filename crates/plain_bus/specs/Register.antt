@@ -45,10 +45,14 @@ pub data Update : Type 0 where
   updated : Register → Update
   rejected : Refusal → Update
 
--- the number that 01 gives
+-- the number that 01 gives, and the register after a call that found it as r: a refusal hands it back as it was
 abbrev pub updateNumber : Update → ℕ
 updateNumber (updated r) = 0
 updateNumber (rejected x) = numberOf x
+
+abbrev pub registerAfter : Register → Update → Register
+registerAfter r (updated r′) = r′
+registerAfter r (rejected x) = r
 
 -- a step an item, one by one: the first that is rejected decides
 unfoldable pub updates : (Register → Item → Update) → List Item → Update → Update

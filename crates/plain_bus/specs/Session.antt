@@ -3,7 +3,7 @@
 use Prim.Native.Nat.{ℕ, _+_, _<_}
 use mathlib.Core.Path.{_≡_}
 use mathlib.Core.List.{List, [], _∷_}
-use mathlib.Core.Bool.{Bool, true, false, cond}
+use mathlib.Core.Bool.{Bool, true, cond, _&&_}
 use lib.Dec.{eqb}
 use lib.ListN.{length, getD, set, replicate}
 use Rattle.decoder.specs.Stream.{Item, operation, fault, itemsOf}
@@ -11,7 +11,7 @@ use Rattle.plain_bus.specs.Kinds.{idOf, closes}
 use Rattle.plain_bus.specs.Held.{Frame, Bus, nodeAt}
 use Rattle.plain_bus.specs.Round.{Injection}
 use Rattle.plain_bus.specs.Calls.{Answer, accepted, isDone, bytesGiven, Outcome, start, submit, runRound, collect}
-use Rattle.plain_bus.specs.Register.{Register, newRegister, Update, updated, rejected, enter, read}
+use Rattle.plain_bus.specs.Register.{Register, newRegister, Update, updateNumber, registerAfter, enter, read}
 
 -- a node submits a buffer; a round with its injection; a node collects into a buffer of some length
 pub data Call : Type 0 where
@@ -34,17 +34,16 @@ answers (c ∷ cs) b = call b c .answer ∷ answers cs (call b c .bus)
 
 -- ---- the registers
 
--- by node number, and whether every register call so far answered 0
+-- by node number, and the numbers that the register calls answered, newest first
 pub record Registers : Type 0 where
   pub each : List Register
-  pub allDone : Bool
+  pub answers : List ℕ
 
 abbrev pub registerAt : Registers → ℕ → Register
 registerAt rs k = getD (rs .each) k newRegister
 
 unfoldable pub keep : Registers → ℕ → Update → Registers
-keep rs k (updated r) = record { each = set (rs .each) k r; allDone = rs .allDone }
-keep rs k (rejected x) = record { each = rs .each; allDone = false }
+keep rs k u = record { each = set (rs .each) k (registerAfter (registerAt rs k) u); answers = updateNumber u ∷ rs .answers }
 
 -- the register call that follows a call: an accepted buffer is entered, collected bytes are read
 unfoldable pub followUp : Registers → Call → Answer → Registers
@@ -59,7 +58,7 @@ pub record World : Type 0 where
   pub registers : Registers
 
 unfoldable pub opening : Bus → World
-opening b = record { bus = b; registers = record { each = replicate (length (b .nodes)) newRegister; allDone = true } }
+opening b = record { bus = b; registers = record { each = replicate (length (b .nodes)) newRegister; answers = [] } }
 
 unfoldable pub after : World → Call → Outcome → World
 after w c o = record { bus = o .bus; registers = followUp (w .registers) c (o .answer) }
@@ -87,10 +86,14 @@ closingIds [] = []
 closingIds (operation op bytes ∷ is) = cond (closes op) (idOf op ∷ closingIds is) (closingIds is)
 closingIds (fault number bytes ∷ is) = closingIds is
 
+unfoldable pub allZero : List ℕ → Bool
+allZero [] = true
+allZero (n ∷ ns) = eqb n 0 && allZero ns
+
 -- every register call answered 0; and of every attached node and every ID number: how often the register has it open is
 -- how many pending frames have it, and how many closing operations still in the queue
 pub record Claim (w : World) : Type 0 where
-  pub allDone : w .registers .allDone ≡ true
+  pub allDone : allZero (w .registers .answers) ≡ true
   pub counts : (k : ℕ) → k < length (w .bus .nodes) → (id : ℕ)
       → times id (registerAt (w .registers) k .opened)
       ≡ times id (pendingIds (nodeAt (w .bus) k .pending)) + times id (closingIds (itemsOf (nodeAt (w .bus) k .queue)))
