@@ -12,7 +12,7 @@ use Rattle.plain_bus.specs.Held.{Frame, Node, Bus, lastRound, discards, 
 use Rattle.plain_bus.specs.Refusal.{Refusal, roundsUsedUp}
 use Rattle.plain_bus.specs.Order.{Entry, wins, winner}
 use Rattle.plain_bus.specs.Round.{Injection, isErrored, winnerId, without, losers, drops, stay, owed, settle, afterRound, age}
-use Rattle.plain_bus.specs.Calls.{refused, idle, carried, Outcome, gives, refuses, wrongInjection, arbitrate, runRound}
+use Rattle.plain_bus.specs.Calls.{refused, idle, carried, answerNumber, Outcome, gives, refuses, wrongInjection, arbitrate, runRound}
 use Rattle.plain_bus.specs.Valid.{Valid}
 use Rattle.plain_bus.specs.Session.{Call, round, call}
 use Rattle.plain_bus.proofs.Nodes.{each-at}
@@ -57,6 +57,9 @@ module _ (b : Bus) (e : Injection) (w : Entry) (l : wrongInjection b e ≡ false
   pub round-last : b .round ≡ 4_294_967_295 → call b (round e) ≡ refuses roundsUsedUp b
   unfolding call runRound arbitrate
   round-last h = rw (l, q, room, le-leb lastRound (b .round) (omega arith))
+
+  pub round-last-number : b .round ≡ 4_294_967_295 → answerNumber (call b (round e) .answer) ≡ 10
+  round-last-number h = ap (λ (o : Outcome). answerNumber (o .answer)) (round-last h)
 
 -- there was a winner; the answer names its node, its ID, whether an error was injected, and its age; the bus is that after
 -- the round

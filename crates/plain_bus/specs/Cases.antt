@@ -95,8 +95,8 @@ cases =
     ∷ numbered 9 [] gives numbers (2 ∷ [])
     ∷ numbered 8
     (submission 8 [] ∷ submission 7 [] ∷ collection 8 0 ∷ round (injected 7 0) ∷ round noError ∷ submission 0 (1 ∷ 2 ∷ 3 ∷ [])
-    ∷ collection 0 12 ∷ collection 0 13 ∷ [])
-    gives numbers (0 ∷ 4 ∷ 0 ∷ 4 ∷ 6 ∷ 0 ∷ 0 ∷ 11 ∷ 0 ∷ [])
+    ∷ collection 0 12 ∷ collection 0 13 ∷ submission 1 (standard 1) ∷ round noError ∷ [])
+    gives numbers (0 ∷ 4 ∷ 0 ∷ 4 ∷ 6 ∷ 0 ∷ 0 ∷ 11 ∷ 0 ∷ 0 ∷ 0 ∷ [])
     -- the settings at the start, and set by each kind of Configuration and by Status
     ∷ settled 2 [] gives settings (atStart ∷ atStart ∷ [])
     ∷ settled 2
