@@ -12,7 +12,7 @@ use Rattle.plain_bus.specs.Round.{newsFor, without, losers, lostNotices,
 use Rattle.plain_bus.specs.Calls.{start, submit, wrongInjection, arbitrate, runRound, collect}
 use Rattle.plain_bus.specs.Register.{noneAbove, validRegister, updates, openId, withOff, noteStatus, enterItem, enter, isOpen, remove, closeId, readItem, read}
 use Rattle.plain_bus.specs.Session.{call, calls, answers, keep, followUp, opening, after, run}
-use Rattle.plain_bus.specs.Examples.{pendingCounts, queues, numbersOf, settingsOf, openIds, reply, computed, expected, table, W1toW10}
+use Rattle.plain_bus.specs.Examples.{reply, computed, expected, table, W1toW10}
 use Rattle.plain_bus.specs.Cases.{cases, CasesHold, longCases, LongCasesHold}
 
 -- to name one of these is to open what it names: reading and writing, the bus, the register, sessions and tables
@@ -41,7 +41,7 @@ unfolding noneAbove validRegister updates openId withOff noteStatus enterItem en
 register = tt
 
 sessions : Unit {0}
-unfolding codec bus register call calls answers keep followUp opening after run pendingCounts queues numbersOf settingsOf openIds reply computed expected
+unfolding codec bus register call calls answers keep followUp opening after run reply computed expected
 sessions = tt
 
 pub w1-to-w10 : W1toW10

@@ -2,7 +2,7 @@
 -- Assumes nothing.
 use Prim.Native.Nat.{ℕ}
 use mathlib.Core.Path.{_≡_}
-use mathlib.Core.List.{List, [], _∷_, _++_}
+use mathlib.Core.List.{List, [], _∷_, _++_, map}
 use mathlib.Core.Bool.{Bool, true, false}
 use lib.ListN.{length}
 use Rattle.operation.specs.Format.{encode}
@@ -41,31 +41,14 @@ pub data Reply : Type 0 where
   settings : List (List ℕ) → Reply
   opens : List ℕ → List (List ℕ) → Reply
 
-unfoldable pub pendingCounts : List Node → List ℕ
-pendingCounts [] = []
-pendingCounts (d ∷ ds) = length (d .pending) ∷ pendingCounts ds
-
-unfoldable pub queues : List Node → List (List ℕ)
-queues [] = []
-queues (d ∷ ds) = d .queue ∷ queues ds
-
-unfoldable pub numbersOf : List Answer → List ℕ
-numbersOf [] = []
-numbersOf (a ∷ rest) = answerNumber a ∷ numbersOf rest
-
-unfoldable pub settingsOf : List Node → List (List ℕ)
-settingsOf [] = []
-settingsOf (d ∷ ds) = (d .status ∷ d .behaviour ∷ d .rates) ∷ settingsOf ds
-
-unfoldable pub openIds : List Register → List (List ℕ)
-openIds [] = []
-openIds (r ∷ rs) = r .opened ∷ openIds rs
-
 abbrev pub atEnd : List Answer → Bus → Reply
-atEnd given b = ends given (pendingCounts (b .nodes)) (queues (b .nodes))
+atEnd given b = ends given (map (λ (d : Node). length (d .pending)) (b .nodes)) (map (λ (d : Node). d .queue) (b .nodes))
+
+abbrev pub settingsOf : Node → List ℕ
+settingsOf d = d .status ∷ d .behaviour ∷ d .rates
 
 abbrev pub inRegisters : Registers → Reply
-inRegisters rs = opens (rs .answers) (openIds (rs .each))
+inRegisters rs = opens (rs .answers) (map (λ (r : Register). r .opened) (rs .each))
 
 abbrev pub inRegister : Register → Update → Reply
 inRegister r u = opens (updateNumber u ∷ []) (registerAfter r u .opened ∷ [])
@@ -75,8 +58,8 @@ reply (written op payload) = bytes (encode op payload)
 reply (isLegal op) = truth (legal op)
 reply (frontOf s) = stands (front s)
 reply (session n cs) = atEnd (answers cs (start n .bus)) (calls cs (start n .bus))
-reply (numbered n cs) = numbers (answerNumber (start n .answer) ∷ numbersOf (answers cs (start n .bus)))
-reply (settled n cs) = settings (settingsOf (calls cs (start n .bus) .nodes))
+reply (numbered n cs) = numbers (map answerNumber (start n .answer ∷ answers cs (start n .bus)))
+reply (settled n cs) = settings (map settingsOf (calls cs (start n .bus) .nodes))
 reply (registered n cs) = inRegisters (run cs (opening (start n .bus)) .registers)
 reply (entering r s) = inRegister r (enter r s)
 reply (reading r s) = inRegister r (read r s)
@@ -92,12 +75,10 @@ _gives_ q a = record { asks = q; expects = a }
 
 infix 70 _gives_
 unfoldable pub computed : List Line → List Reply
-computed [] = []
-computed (l ∷ ls) = reply (l .asks) ∷ computed ls
+computed ls = map (λ (l : Line). reply (l .asks)) ls
 
 unfoldable pub expected : List Line → List Reply
-expected [] = []
-expected (l ∷ ls) = l .expects ∷ expected ls
+expected ls = map (λ (l : Line). l .expects) ls
 
 -- ---- the bytes that 01 prints
 
