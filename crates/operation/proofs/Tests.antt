@@ -45,11 +45,13 @@ one-to-three x = alike (eqb x 1 || eqb x 2 || eqb x 3) (leb 1 x && leb x 3) (wit
   where
     between : 1 ≤ x → x ≤ 3 → (leb 1 x && leb x 3) ≡ true
     between l u = rw (le-leb 1 x l, le-leb x 3 u)
+
     within : (a : Bool) → eqb x 1 ≡ a → (b : Bool) → eqb x 2 ≡ b → (c : Bool) → eqb x 3 ≡ c → (a || b || c) ≡ true → (leb 1 x && leb x 3) ≡ true
     within true qa b qb c qc e = let h = eqb-true x 1 qa in between (omega arith) (omega arith)
     within false qa true qb c qc e = let h = eqb-true x 2 qb in between (omega arith) (omega arith)
     within false qa false qb true qc e = let h = eqb-true x 3 qc in between (omega arith) (omega arith)
     within false qa false qb false qc e = false-is-true e
+
     third : 1 ≤ x → x ≤ 3 → (a : Bool) → eqb x 1 ≡ a → (b : Bool) → eqb x 2 ≡ b → (a || b || eqb x 3) ≡ true
     third l u true qa true qb = refl
     third l u true qa false qb = refl
@@ -58,6 +60,7 @@ one-to-three x = alike (eqb x 1 || eqb x 2 || eqb x 3) (leb 1 x && leb x 3) (wit
         let n1 : x ≡ 1 → ⊥ = eqb-false x 1 qa in
         let n2 : x ≡ 2 → ⊥ = eqb-false x 2 qb in
         eq-eqb x 3 (omega arith)
+
     among : (leb 1 x && leb x 3) ≡ true → (eqb x 1 || eqb x 2 || eqb x 3) ≡ true
     among e =
         let p = both (leb 1 x) (leb x 3) e in
