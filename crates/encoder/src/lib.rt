@@ -207,9 +207,9 @@ fn put_status(buffer: &mut [u8], status: u8)
     put1(buffer, 8, status);
 }
 
-// Writing one kind: the answer, then the header and the data behind it.
+// Writing one kind: the answer, then the header and the data behind it. A caller that has the kind needs no `Operation`.
 
-fn write_format_error(n: u16, payload: &[u8], buffer: &mut [u8]) -> Written
+pub fn write_format_error(n: u16, payload: &[u8], buffer: &mut [u8]) -> Written
     ensures answer { λ r. ⌜ r ≡ answerOf (Operation.FormatError n) (length (now (payload .entry))) (length (now (buffer .entry))) ⌝ }
     ensures written { λ _. ⌜ now (buffer .exit) ≡ writtenOf (Operation.FormatError n) (now (payload .entry)) (now (buffer .entry)) ⌝ }
 {
@@ -226,7 +226,7 @@ fn write_format_error(n: u16, payload: &[u8], buffer: &mut [u8]) -> Written
     }
 }
 
-fn write_can(id: u32, ide: u8, rtr: u8, dl: u16, payload: &[u8], buffer: &mut [u8]) -> Written
+pub fn write_can(id: u32, ide: u8, rtr: u8, dl: u16, payload: &[u8], buffer: &mut [u8]) -> Written
     ensures answer { λ r. ⌜ r ≡ answerOf (Operation.CanTransmit id ide rtr dl) (length (now (payload .entry))) (length (now (buffer .entry))) ⌝ }
     ensures written { λ _. ⌜ now (buffer .exit) ≡ writtenOf (Operation.CanTransmit id ide rtr dl) (now (payload .entry)) (now (buffer .entry)) ⌝ }
 {
@@ -243,7 +243,7 @@ fn write_can(id: u32, ide: u8, rtr: u8, dl: u16, payload: &[u8], buffer: &mut [u
     }
 }
 
-fn write_fd(
+pub fn write_fd(
     id: u32,
     ide: u8,
     brs: u8,
@@ -268,7 +268,7 @@ fn write_fd(
     }
 }
 
-fn write_xl(
+pub fn write_xl(
     id: u32,
     ide: u8,
     sec: u8,
@@ -295,7 +295,7 @@ fn write_xl(
     }
 }
 
-fn write_confirm(id: u32, payload: &[u8], buffer: &mut [u8]) -> Written
+pub fn write_confirm(id: u32, payload: &[u8], buffer: &mut [u8]) -> Written
     ensures answer { λ r. ⌜ r ≡ answerOf (Operation.Confirm id) (length (now (payload .entry))) (length (now (buffer .entry))) ⌝ }
     ensures written { λ _. ⌜ now (buffer .exit) ≡ writtenOf (Operation.Confirm id) (now (payload .entry)) (now (buffer .entry)) ⌝ }
 {
@@ -311,7 +311,7 @@ fn write_confirm(id: u32, payload: &[u8], buffer: &mut [u8]) -> Written
     }
 }
 
-fn write_arbitration_lost(id: u32, payload: &[u8], buffer: &mut [u8]) -> Written
+pub fn write_arbitration_lost(id: u32, payload: &[u8], buffer: &mut [u8]) -> Written
     ensures answer { λ r. ⌜ r ≡ answerOf (Operation.ArbitrationLost id) (length (now (payload .entry))) (length (now (buffer .entry))) ⌝ }
     ensures written { λ _. ⌜ now (buffer .exit) ≡ writtenOf (Operation.ArbitrationLost id) (now (payload .entry)) (now (buffer .entry)) ⌝ }
 {
@@ -327,7 +327,7 @@ fn write_arbitration_lost(id: u32, payload: &[u8], buffer: &mut [u8]) -> Written
     }
 }
 
-fn write_bus_error(
+pub fn write_bus_error(
     id: u32,
     code: u8,
     flag: u8,
@@ -350,7 +350,7 @@ fn write_bus_error(
     }
 }
 
-fn write_status(status: u8, payload: &[u8], buffer: &mut [u8]) -> Written
+pub fn write_status(status: u8, payload: &[u8], buffer: &mut [u8]) -> Written
     ensures answer { λ r. ⌜ r ≡ answerOf (Operation.Status status) (length (now (payload .entry))) (length (now (buffer .entry))) ⌝ }
     ensures written { λ _. ⌜ now (buffer .exit) ≡ writtenOf (Operation.Status status) (now (payload .entry)) (now (buffer .entry)) ⌝ }
 {
@@ -366,7 +366,7 @@ fn write_status(status: u8, payload: &[u8], buffer: &mut [u8]) -> Written
     }
 }
 
-fn write_configuration(kind: u8, value: u32, payload: &[u8], buffer: &mut [u8]) -> Written
+pub fn write_configuration(kind: u8, value: u32, payload: &[u8], buffer: &mut [u8]) -> Written
     ensures answer { λ r. ⌜ r ≡ answerOf (Operation.Configuration kind value) (length (now (payload .entry))) (length (now (buffer .entry))) ⌝ }
     ensures written { λ _. ⌜ now (buffer .exit) ≡ writtenOf (Operation.Configuration kind value) (now (payload .entry)) (now (buffer .entry)) ⌝ }
 {
@@ -387,7 +387,7 @@ fn write_configuration(kind: u8, value: u32, payload: &[u8], buffer: &mut [u8]) 
     }
 }
 
-fn write_wakeup(payload: &[u8], buffer: &mut [u8]) -> Written
+pub fn write_wakeup(payload: &[u8], buffer: &mut [u8]) -> Written
     ensures answer { λ r. ⌜ r ≡ answerOf Operation.Wakeup (length (now (payload .entry))) (length (now (buffer .entry))) ⌝ }
     ensures written { λ _. ⌜ now (buffer .exit) ≡ writtenOf Operation.Wakeup (now (payload .entry)) (now (buffer .entry)) ⌝ }
 {

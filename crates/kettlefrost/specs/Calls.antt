@@ -44,9 +44,12 @@ abbrev pub answered : Written → WriteAnswer
 answered w = record { refusal = numberOf w; length = lengthWritten w }
 
 -- an unknown code breaks a rule
+abbrev pub answerNamed : Named → ℕ → ℕ → Written
+answerNamed Unknown given room = RuleBroken
+answerNamed (Known op) given room = answerOf op given room
+
 abbrev pub writeAnswer : Named → ℕ → ℕ → WriteAnswer
-writeAnswer Unknown given room = answered RuleBroken
-writeAnswer (Known op) given room = answered (answerOf op given room)
+writeAnswer n given room = answered (answerNamed n given room)
 
 abbrev pub bufferAfterWrite : Named → List ℕ → List ℕ → List ℕ
 bufferAfterWrite Unknown payload buffer = buffer

@@ -3,7 +3,7 @@ ghost use mathlib.Core.Path.{_≡_};
 ghost use lib.ListN.{length};
 ghost use Rattle.decoder.specs.Reading.{readAt};
 ghost use Rattle.kettlefrost.specs.Flat.{flatRow, flat, named};
-ghost use Rattle.kettlefrost.specs.Calls.{readAnswer, dataAnswer, lengthWritten, writeAnswer, bufferAfterWrite};
+ghost use Rattle.kettlefrost.specs.Calls.{readAnswer, dataAnswer, lengthWritten, answerNamed, writeAnswer, bufferAfterWrite};
 use decoder::Cursor;
 use decoder::Reading;
 use encoder::Written;
@@ -231,6 +231,37 @@ fn length_written(w: Written) -> usize
     }
 }
 
+// Writes by the code: no operation is built on the way.
+fn write_named(f: FlatOperation, payload: &[u8], buffer: &mut [u8]) -> Written
+    ensures answer { λ r. ⌜ r ≡ answerNamed (named f) (length (now (payload .entry))) (length (now (buffer .entry))) ⌝ }
+    ensures written { λ _. ⌜ now (buffer .exit) ≡ bufferAfterWrite (named f) (now (payload .entry)) (now (buffer .entry)) ⌝ }
+{
+    let code = f.code;
+    match code {
+        0x01 => encoder::write_format_error(f.length, payload, buffer),
+        0x10 => encoder::write_can(f.id, f.first, f.second, f.length, payload, buffer),
+        0x11 => encoder::write_fd(f.id, f.first, f.second, f.third, f.length, payload, buffer),
+        0x12 => encoder::write_xl(
+            f.id,
+            f.first,
+            f.second,
+            f.third,
+            f.fourth,
+            f.word,
+            f.length,
+            payload,
+            buffer,
+        ),
+        0x20 => encoder::write_confirm(f.id, payload, buffer),
+        0x30 => encoder::write_arbitration_lost(f.id, payload, buffer),
+        0x31 => encoder::write_bus_error(f.id, f.first, f.second, f.third, payload, buffer),
+        0x40 => encoder::write_configuration(f.first, f.word, payload, buffer),
+        0x41 => encoder::write_status(f.first, payload, buffer),
+        0x42 => encoder::write_wakeup(payload, buffer),
+        _ => Written::RuleBroken,
+    }
+}
+
 // Writes an operation with its data to the front of a buffer.
 #[no_mangle]
 pub extern "C" fn kf_write(
@@ -241,17 +272,9 @@ pub extern "C" fn kf_write(
     ensures answer { λ r. ⌜ r ≡ writeAnswer (named operation) (length (now (payload .entry))) (length (now (buffer .entry))) ⌝ }
     ensures written { λ _. ⌜ now (buffer .exit) ≡ bufferAfterWrite (named operation) (now (payload .entry)) (now (buffer .entry)) ⌝ }
 {
-    match operation_of(operation) {
-        Named::Known(op) => {
-            let w = encoder::write(op, payload, buffer);
-            WriteAnswer {
-                refusal: encoder::number_of(w) as usize,
-                length: length_written(w),
-            }
-        }
-        Named::Unknown => WriteAnswer {
-            refusal: 7,
-            length: 0,
-        },
+    let w = write_named(operation, payload, buffer);
+    WriteAnswer {
+        refusal: encoder::number_of(w) as usize,
+        length: length_written(w),
     }
 }
