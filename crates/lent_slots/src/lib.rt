@@ -18,3 +18,30 @@ pub fn put(slots: &mut [Slot], i: usize, s: Slot)
 {
     slots[i] = s;
 }
+
+// The lent slots as an array by value.
+pub fn load(slots: &[Slot]) -> [Slot; 32]
+    requires { ⌜ length (now slots) ≡ 32 ⌝ }
+    ensures { λ r. ⌜ r ≡ now (slots .entry) ⌝ }
+{
+    let s = slots[0];
+    let mut a = [s; 32];
+    let mut i: usize = 1;
+    while i < 32 {
+        a[i] = slots[i];
+        i += 1;
+    }
+    a
+}
+
+// An array of slots into the lent ones.
+pub fn store(slots: &mut [Slot], a: [Slot; 32])
+    requires { ⌜ length (now slots) ≡ 32 ⌝ }
+    ensures { λ _. ⌜ now (slots .exit) ≡ a ⌝ }
+{
+    let mut i: usize = 0;
+    while i < 32 {
+        slots[i] = a[i];
+        i += 1;
+    }
+}
