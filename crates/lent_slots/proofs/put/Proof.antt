@@ -24,7 +24,6 @@ use types.Run.{look, init, store-raw, forget, stop, hop, fld, from, load, lit, u
 use sound.WpLaws.{WpFn-mono}
 use denote.RattleType.{owns}
 use denote.Shadow.{pureI}
-use denote.Laws.{Is}
 use denote.Plain.{uint-vals, uint-tells}
 use denote.Builtin.{usize}
 use denote.Ref.{RefT, now}
@@ -40,7 +39,7 @@ use denote.Triple.Walked.{says, needs, Stays, stay-slice, stay-none, walkOf, goe
 use denote.Exit.{yes}
 use Rattle.slots.specs.declared.Slot.{Slot}
 use Rattle.slots.proofs.Slot as T
-use Rattle.lent_slots.proofs.Element.{slot-out, slot-owned, tells, typed, value, values}
+use Rattle.lent_slots.proofs.Element.{IsSlot, slot-out, slot-owned, tells, typed, value, values}
 use Rattle.lent_slots.proofs.put.Key.{name as #put}
 use Rattle.lent_slots.proofs.put as put
 use Rattle.lent_slots.proofs.put.Statement as stated
@@ -49,16 +48,16 @@ use Rattle.lent_slots.proofs.put.Code as code
 abbrev stayed : Stays (put.ended .signature .params) (put.ended .kept)
 stayed = (stay-slice (0 ∷ []) tt (plain (λ _. T.the-row)), (stay-none (λ _. usize) yes, (stay-none (λ _. T.the-row) yes, tt)))
 
-module _ {M : Type 1} (𝓤 : URA M) (H : Heap 𝓤) (A : Atoms 𝓤) (W : Given 𝓤 H A) (mem : Memory → SProp 𝓤) (run : Routine → Fun 𝓤) (κ : Lft) (q : Share) (b o : ℕ) (γ : GName) (ys : List Slot) (i : ℕ) (p : Slot) where
+module _ {M : Type 1} (𝓤 : URA M) (H : Heap 𝓤) (A : Atoms 𝓤) (W : Given 𝓤 H A) (mem : Memory → SProp 𝓤) (run : Routine → Fun 𝓤) (κ : Lft) (q : Share) (b o : ℕ) (γ : GName) (ys : List Slot) (i : ℕ) (s : Slot) where
   abbrev Arg : Type 0
   Arg = RefT (List Slot) × (ℕ × (Slot × Unit {0}))
 
   -- the arguments, with the slice at the list l
   abbrev x : List Slot → Arg
-  x l = (record { ptr = (b, o); name = γ; now = l }, (i, (p, tt)))
+  x l = (record { ptr = (b, o); name = γ; now = l }, (i, (s, tt)))
 
   abbrev mach : Val
-  mach = value p
+  mach = value s
 
   abbrev at : Vals put.signature (κ, tt)
   at = (sliceVal (b, o) (length ys) ∷ [], (vint w64 i ∷ [], (mach ∷ [], tt)))
@@ -68,35 +67,35 @@ module _ {M : Type 1} (𝓤 : URA M) (H : Heap 𝓤) (A : Atoms 𝓤) (W : Given
 
   -- the list at exit
   abbrev zs : List Slot
-  zs = set ys i p
+  zs = set ys i s
 
-  exits : Room T.the-row (length ys) → ent 𝓤 (⋆ 𝓤 H A (‵ (fobs γ (codedHoleys T.the-row .code (heres T.the-row zs))) ∷ ‵ (fbor κ (Held T.the-row (length zs) b o γ)) ∷ ‵ (flft κ q) ∷ ‵ (fsep (usize .own i (vint w64 i ∷ [])) (fsep (T.the-row .own p (mach ∷ [])) ftrue)) ∷ []))
+  exits : Room T.the-row (length ys) → ent 𝓤 (⋆ 𝓤 H A (‵ (fobs γ (codedHoleys T.the-row .code (heres T.the-row zs))) ∷ ‵ (fbor κ (Held T.the-row (length zs) b o γ)) ∷ ‵ (flft κ q) ∷ ‵ (fsep (usize .own i (vint w64 i ∷ [])) (fsep (T.the-row .own s (mach ∷ [])) ftrue)) ∷ []))
       (Post vunit)
   exits gn =
-      qed W (‵ (fobs γ (codedHoleys T.the-row .code (heres T.the-row zs))) ∷ ‵ (fbor κ (Held T.the-row (length zs) b o γ)) ∷ ‵ (flft κ q) ∷ ‵ (fsep (usize .own i (vint w64 i ∷ [])) (fsep (T.the-row .own p (mach ∷ [])) ftrue)) ∷ []) ∵
-      suffices ! _ (ends-at 𝓤 H A put.ended stayed (put.clauses 𝓤 H A mem run) W (((κ, tt), (q, tt), tt, x ys, at), tt) vunit tt (zs, (tt, (tt, tt))) (length-set ys i p, (tt, (tt, tt)))) $ says ! refl $
+      qed W (‵ (fobs γ (codedHoleys T.the-row .code (heres T.the-row zs))) ∷ ‵ (fbor κ (Held T.the-row (length zs) b o γ)) ∷ ‵ (flft κ q) ∷ ‵ (fsep (usize .own i (vint w64 i ∷ [])) (fsep (T.the-row .own s (mach ∷ [])) ftrue)) ∷ []) ∵
+      suffices ! _ (ends-at 𝓤 H A put.ended stayed (put.clauses 𝓤 H A mem run) W (((κ, tt), (q, tt), tt, x ys, at), tt) vunit tt (zs, (tt, (tt, tt))) (length-set ys i s, (tt, (tt, tt)))) $ says ! refl $
       nothing ! $ move ! (3 ∷ 0 ∷ []) $ join ! $
-      frame ! $ fjoin ! $ pureI ! (at-slice T.the-row (x zs .0) (at .0)) (tt, (tt, tt)) (ap (λ (m : ℕ). sliceVal (b, o) m ∷ []) (sym (length-set ys i p)), subst (Room T.the-row) (sym (length-set ys i p)) gn) $ fjoin ! $ fjoin ! $ frame ! $
+      frame ! $ fjoin ! $ pureI ! (at-slice T.the-row (x zs .0) (at .0)) (tt, (tt, tt)) (ap (λ (m : ℕ). sliceVal (b, o) m ∷ []) (sym (length-set ys i s)), subst (Room T.the-row) (sym (length-set ys i s)) gn) $ fjoin ! $ fjoin ! $ frame ! $
       feqI ! (List Val) (vunit ∷ []) (vunit ∷ []) refl $ done !
 
   module _ (C : Calls 𝓤 H) (Λ : Loops 𝓤 H) where
-    walk : Room T.the-row (length ys) → i < 2 ^ 64 → Is T.the-row p (mach ∷ []) → i < length ys → ent 𝓤 (onEntry 𝓤 H A put.signature (κ, tt) (q, tt) (x ys) at)
+    walk : Room T.the-row (length ys) → i < 2 ^ 64 → IsSlot s → i < length ys → ent 𝓤 (onEntry 𝓤 H A put.signature (κ, tt) (q, tt) (x ys) at)
         (WpFn 𝓤 H C Λ code.function (sliceVal (b, o) (length ys) ∷ vint w64 i ∷ mach ∷ []) Post)
     walk gn gi gp l =
         let wide : i * 20 < 2 ^ 64 = omega (arith, gn .1) in
         qed W ((‵ (flft κ q) ⊛ ‵ ftrue) ∷ ‵ (owns (MutSlice (named 0) κ T.the-row ∷ usize ∷ T.the-row ∷ []) (x ys) at) ∷ []) ∵ enter ! C Λ code.function (sliceVal (b, o) (length ys) ∷ vint w64 i ∷ mach ∷ []) _ $
         alloc1 ! (λ l₀. alloc1 ! (λ l₁. alloc1 ! (λ l₂. alloc1 ! (λ l₃. alloc1 ! (λ l₄. alloc1 ! (λ l₅. alloc0 ! $ params1 ! $
-        pass1 ! (init ! 8 refl (tt, (tt, (record { fits = gn .0 }, tt)))) $ pass1 ! (init ! 6 refl (tt, record { fits = gi })) $ pass1 ! (init ! 4 refl (typed W p gp)) $ pass0 ! $
+        pass1 ! (init ! 8 refl (tt, (tt, (record { fits = gn .0 }, tt)))) $ pass1 ! (init ! 6 refl (tt, record { fits = gi })) $ pass1 ! (init ! 4 refl (typed W s gp)) $ pass0 ! $
         -- _4 = i * 20, _5 = the pointer and _4
         assigns ! (bin ! (load ! (from ! (stop !)) (look ! 6 refl)) (lit ! tt) (record { fits = wide })) (from ! (stop !)) (init ! 2 refl (tt, record { fits = wide })) $
         assigns ! (bin ! (load ! (from ! (fld ! refl (stop !))) (look-in ! 8 (sub ! 0 refl (whole !)))) (load ! (from ! (stop !)) (look ! 2 refl)) tt) (from ! (stop !)) (init ! 0 refl (tt, tt)) $
         rewrite ! 0 (λ (n : ℕ). ‵ (fat fullShare tyPtr l₅ 0 (vptr b n))) (sym (place-is 20 o i)) refl $
         move ! (13 ∷ []) $ fsplit ! $ fsplit ! $ move ! (1 ∷ []) $ fsplit ! $ move ! (16 ∷ []) $ split ! $ move ! (2 ∷ 3 ∷ 0 ∷ []) $
         opens-slice ! tt T.the-row ys b o $ slot-out ! fullShare ys i b o l (λ _.
-        -- [xs[i]; what it owns; the others; the open borrow; obs; auth; true; xs's fact; i's and p's; _5; …; _4; …; _3; …; _2; …; _1; …; _0; …]
-        assigns ! (of-opd ! (load ! (from ! (stop !)) (look ! 13 refl))) (from ! (hop ! (look ! 9 refl) (stop !))) (store-raw ! 0 refl (typed W p gp)) $
-        move ! (1 ∷ []) $ drop ! $ slot-owned ! p gp $ move ! (1 ∷ 0 ∷ []) $ elem-put ! T.the-row fullShare ys i p (mach ∷ []) b o l $
-        closes-slice ! tt T.the-row ys zs (length-set ys i p) b o $
+        -- [slot i; what it owns; the others; the open borrow; obs; auth; true; the slice's fact; i's and s's; _5; …; _4; …; _3; …; _2; …; _1; …; _0; …]
+        assigns ! (of-opd ! (load ! (from ! (stop !)) (look ! 13 refl))) (from ! (hop ! (look ! 9 refl) (stop !))) (store-raw ! 0 refl (typed W s gp)) $
+        move ! (1 ∷ []) $ drop ! $ slot-owned ! s gp $ move ! (1 ∷ 0 ∷ []) $ elem-put ! T.the-row fullShare ys i s (mach ∷ []) b o l $
+        closes-slice ! tt T.the-row ys zs (length-set ys i s) b o $
         assigns ! (of-opd ! (unit-lit !)) (from ! (stop !)) (init ! 16 refl (tt, tt)) $
         returns ! (look ! 16 refl) $ forget ! 6 refl $ forget ! 8 refl $ forget ! 10 refl $ forget ! 12 refl $ forget ! 14 refl $ forget ! 16 refl $
         move ! (16 ∷ 17 ∷ []) $ free1 ! $ move ! (14 ∷ 15 ∷ []) $ free1 ! $ move ! (12 ∷ 13 ∷ []) $ free1 ! $ move ! (10 ∷ 11 ∷ []) $ free1 ! $ move ! (8 ∷ 9 ∷ []) $ free1 ! $ move ! (6 ∷ 7 ∷ []) $ free1 ! $ free0 ! $
