@@ -20,10 +20,14 @@ pub struct State {
 
 // Sizes of the lent memory.
 pub const SLOTS: usize = 32;
+
 pub const PAYLOAD_BYTES: usize = 65536;
+
 pub const QUEUE_BYTES: usize = 32768;
 
 // What one node has of them.
 pub const SLOTS_PER_NODE: usize = 4;
+
 pub const SLOT_BYTES: usize = 2048;
+
 pub const QUEUE_CAPACITY: usize = 4096;

@@ -8,7 +8,7 @@ use Rattle.operation.specs.declared.Operation.{Operation}
 use Rattle.operation.specs.declared.Operation.the-variants.{FormatError, CanTransmit, FdTransmit, XlTransmit, Confirm, ArbitrationLost, BusError, Configuration, Status, Wakeup}
 use Rattle.slots.specs.declared.Slot.{Slot}
 use Rattle.slots.specs.declared.Content.{Content}
-use Rattle.slots.specs.declared.Content.the-variants.{Free, Frame}
+use Rattle.slots.specs.declared.Content.the-variants.{Free, Transmit}
 
 abbrev pub slotRow : (accepted id af length kind owner first second third fourth : ℕ) → Slot
 slotRow accepted id af length kind owner first second third fourth = record {
@@ -31,9 +31,9 @@ freeSlot = slotRow 0 0 0 0 0 0 0 0 0 0
 -- what a slot holds, by its kind: the code of the Transmit, or 0
 unfoldable pub contentOf : Slot → Content
 contentOf s =
-    cond (eqb (s .kind) 0x10) (Frame (CanTransmit (s .id) (s .first) (s .second) (s .length)))
-    (cond (eqb (s .kind) 0x11) (Frame (FdTransmit (s .id) (s .first) (s .second) (s .third) (s .length)))
-    (cond (eqb (s .kind) 0x12) (Frame (XlTransmit (s .id) (s .first) (s .second) (s .third) (s .fourth) (s .af) (s .length)))
+    cond (eqb (s .kind) 0x10) (Transmit (CanTransmit (s .id) (s .first) (s .second) (s .length)))
+    (cond (eqb (s .kind) 0x11) (Transmit (FdTransmit (s .id) (s .first) (s .second) (s .third) (s .length)))
+    (cond (eqb (s .kind) 0x12) (Transmit (XlTransmit (s .id) (s .first) (s .second) (s .third) (s .fourth) (s .af) (s .length)))
     Free))
 
 -- the slot of an operation: of a Transmit one that holds it, of any other a free one
@@ -52,4 +52,4 @@ slotOf Wakeup owner accepted = freeSlot
 -- a frame that meets the content rules
 abbrev pub legalContent : Content → Bool
 legalContent Free = false
-legalContent (Frame op) = legal op
+legalContent (Transmit op) = legal op

@@ -21,7 +21,7 @@ pub struct Slot {
 
 pub enum Content {
     Free,
-    Frame(Operation),
+    Transmit(Operation),
 }
 
 fn row(
@@ -58,20 +58,20 @@ pub fn content_of(s: Slot) -> Content
 {
     let kind = s.kind;
     match kind {
-        0x10 => Content::Frame(Operation::CanTransmit {
+        0x10 => Content::Transmit(Operation::CanTransmit {
             id: s.id,
             ide: s.first,
             rtr: s.second,
             dl: s.length,
         }),
-        0x11 => Content::Frame(Operation::FdTransmit {
+        0x11 => Content::Transmit(Operation::FdTransmit {
             id: s.id,
             ide: s.first,
             brs: s.second,
             esi: s.third,
             dl: s.length,
         }),
-        0x12 => Content::Frame(Operation::XlTransmit {
+        0x12 => Content::Transmit(Operation::XlTransmit {
             id: s.id,
             ide: s.first,
             sec: s.second,
