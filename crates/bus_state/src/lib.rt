@@ -1,0 +1,120 @@
+// The state of the bus, which goes in and comes back by value, beside the lent memory: slots, payload bytes, queue bytes.
+ghost use mathlib.Core.Path.{_≡_};
+ghost use Prim.Native.Nat.{_-_, _≤_, _<_};
+ghost use Rattle.operation.specs.Rules.{oneOf, behaviours};
+ghost use Rattle.bus_state.specs.Valid.{nonZero, validEntry, validSlot, validSlots, validNode, validState};
+use slots::Slot;
+
+// What is held of one node besides its frames and its queue's bytes: its pending frames are slots 4j to 4j + pending - 1 of node j,
+// oldest first, and its queue the first fill bytes from 4,096 j on.
+#[repr(C)]
+pub struct NodeState {
+    pub rates: [u32; 3],
+    pub fill: u16,
+    pub status: u8,
+    pub behaviour: u8,
+    pub pending: u8,
+}
+
+#[repr(C)]
+pub struct State {
+    pub count: u32,
+    pub round: u32,
+    pub nodes: [NodeState; 8],
+}
+
+// Sizes of the lent memory.
+pub const SLOTS: usize = 32;
+
+pub const PAYLOAD_BYTES: usize = 65536;
+
+pub const QUEUE_BYTES: usize = 32768;
+
+// What one node has of them.
+pub const SLOTS_PER_NODE: usize = 4;
+
+pub const SLOT_BYTES: usize = 2048;
+
+pub const QUEUE_CAPACITY: usize = 4096;
+
+// The behaviours are those of a Configuration.
+fn is_behaviour(x: u8) -> bool
+    ensures { λ r. ⌜ r ≡ oneOf x behaviours ⌝ }
+{
+    (x as u32 == operation::BUFFER_AND_RETRANSMIT) | (x as u32 == operation::DISCARD_AND_NOTIFY)
+}
+
+fn are_non_zero(rates: [u32; 3]) -> bool
+    ensures { λ r. ⌜ r ≡ nonZero rates ⌝ }
+{
+    (1 <= rates[0]) & (1 <= rates[1]) & (1 <= rates[2])
+}
+
+fn entry_is_valid(d: NodeState) -> bool
+    ensures { λ r. ⌜ r ≡ validEntry d ⌝ }
+{
+    let rates = d.rates;
+    operation::status_is_legal(d.status)
+        & is_behaviour(d.behaviour)
+        & are_non_zero(rates)
+        & (d.fill <= 4096)
+        & (d.pending <= 4)
+        & ((d.status != operation::BUS_OFF) | (d.pending == 0))
+}
+
+fn slot_is_valid(s: Slot, owner: u8, low: u32, now: u32) -> bool
+    ensures { λ r. ⌜ r ≡ validSlot owner low now s ⌝ }
+{
+    slots::is_legal(s) & (s.owner == owner) & (low <= s.accepted) & (s.accepted <= now)
+}
+
+// The slots from one position to another hold a node's frames, oldest first.
+fn slots_are_valid(a: [Slot; 32], first: usize, end: usize, owner: u8, now: u32) -> bool
+    requires { ⌜ (first ≤ end) × (end ≤ 32) ⌝ }
+    ensures { λ r. ⌜ r ≡ validSlots (end - first) first owner 0 now a ⌝ }
+{
+    let mut low: u32 = 0;
+    let mut p = first;
+    while p < end {
+        let s = a[p];
+        if !slot_is_valid(s, owner, low, now) {
+            return false;
+        }
+        low = s.accepted;
+        p += 1;
+    }
+    true
+}
+
+fn node_is_valid(d: NodeState, a: [Slot; 32], j: u8, now: u32) -> bool
+    requires { ⌜ j < 8 ⌝ }
+    ensures { λ r. ⌜ r ≡ validNode now j d a ⌝ }
+{
+    if !entry_is_valid(d) {
+        return false;
+    }
+    let first = 4 * j as usize;
+    slots_are_valid(a, first, first + d.pending as usize, j, now)
+}
+
+// Whether a state with its slots is valid (01: sound).
+pub fn is_valid(s: State, a: [Slot; 32]) -> bool
+    ensures { λ r. ⌜ r ≡ validState s a ⌝ }
+{
+    let count = s.count;
+    if count < 2 {
+        return false;
+    }
+    if 8 < count {
+        return false;
+    }
+    let nodes = s.nodes;
+    let mut j: u32 = 0;
+    while j < count {
+        if !node_is_valid(nodes[j as usize], a, j as u8, s.round) {
+            return false;
+        }
+        j += 1;
+    }
+    true
+}

@@ -1,0 +1,47 @@
+// The lent slots, one by one and all at once. These are for the bus crate above only: each has a requires that its caller must meet.
+ghost use mathlib.Core.Path.{_≡_};
+ghost use Prim.Native.Nat.{_<_};
+ghost use lib.ListN.{length, getD, set};
+ghost use Rattle.slots.specs.Slots.{freeSlot};
+use slots::Slot;
+
+pub fn get(slots: &[Slot], i: usize) -> Slot
+    requires { ⌜ i < length (now slots) ⌝ }
+    ensures { λ r. ⌜ r ≡ getD (now (slots .entry)) i freeSlot ⌝ }
+{
+    slots[i]
+}
+
+pub fn put(slots: &mut [Slot], i: usize, s: Slot)
+    requires { ⌜ i < length (now slots) ⌝ }
+    ensures { λ _. ⌜ now (slots .exit) ≡ set (now (slots .entry)) i s ⌝ }
+{
+    slots[i] = s;
+}
+
+// The lent slots as an array by value.
+pub fn load(slots: &[Slot]) -> [Slot; 32]
+    requires { ⌜ length (now slots) ≡ 32 ⌝ }
+    ensures { λ r. ⌜ r ≡ now (slots .entry) ⌝ }
+{
+    let s = slots[0];
+    let mut a = [s; 32];
+    let mut i: usize = 1;
+    while i < 32 {
+        a[i] = slots[i];
+        i += 1;
+    }
+    a
+}
+
+// An array of slots into the lent ones.
+pub fn store(slots: &mut [Slot], a: [Slot; 32])
+    requires { ⌜ length (now slots) ≡ 32 ⌝ }
+    ensures { λ _. ⌜ now (slots .exit) ≡ a ⌝ }
+{
+    let mut i: usize = 0;
+    while i < 32 {
+        slots[i] = a[i];
+        i += 1;
+    }
+}
