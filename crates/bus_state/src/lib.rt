@@ -23,19 +23,10 @@ pub struct State {
     pub nodes: [NodeState; 8],
 }
 
-// Sizes of the lent memory.
-pub const SLOTS: usize = 32;
+// What one node has of the lent memory.
+pub const SLOTS_PER_NODE: u8 = 4;
 
-pub const PAYLOAD_BYTES: usize = 65536;
-
-pub const QUEUE_BYTES: usize = 32768;
-
-// What one node has of them.
-pub const SLOTS_PER_NODE: usize = 4;
-
-pub const SLOT_BYTES: usize = 2048;
-
-pub const QUEUE_CAPACITY: usize = 4096;
+pub const QUEUE_CAPACITY: u16 = 4096;
 
 // The behaviours are those of a Configuration.
 fn is_behaviour(x: u8) -> bool
@@ -57,8 +48,8 @@ fn entry_is_valid(d: NodeState) -> bool
     operation::status_is_legal(d.status)
         & is_behaviour(d.behaviour)
         & are_non_zero(rates)
-        & (d.fill <= 4096)
-        & (d.pending <= 4)
+        & (d.fill <= QUEUE_CAPACITY)
+        & (d.pending <= SLOTS_PER_NODE)
         & ((d.status != operation::BUS_OFF) | (d.pending == 0))
 }
 

@@ -18,7 +18,7 @@ use operation::FORM_ERROR;
 use operation::PRIMARY_ERROR_FLAG;
 use operation::SECONDARY_ERROR_FLAG;
 
-pub fn error_code(line: Line, code: u8) -> Line {
+pub(crate) fn error_code(line: Line, code: u8) -> Line {
     match code {
         BIT_ERROR => line.text(b"BIT_ERROR"),
         BIT_STUFFING_ERROR => line.text(b"BIT_STUFFING_ERROR"),
@@ -30,7 +30,7 @@ pub fn error_code(line: Line, code: u8) -> Line {
     }
 }
 
-pub fn error_flag(line: Line, flag: u8) -> Line {
+pub(crate) fn error_flag(line: Line, flag: u8) -> Line {
     match flag {
         PRIMARY_ERROR_FLAG => line.text(b"PRIMARY_ERROR_FLAG"),
         SECONDARY_ERROR_FLAG => line.text(b"SECONDARY_ERROR_FLAG"),
@@ -38,7 +38,7 @@ pub fn error_flag(line: Line, flag: u8) -> Line {
     }
 }
 
-pub fn configuration_kind(line: Line, kind: u8) -> Line {
+pub(crate) fn configuration_kind(line: Line, kind: u8) -> Line {
     match kind {
         CAN_BAUDRATE => line.text(b"CAN_BAUDRATE"),
         CAN_FD_BAUDRATE => line.text(b"CAN_FD_BAUDRATE"),
@@ -48,7 +48,7 @@ pub fn configuration_kind(line: Line, kind: u8) -> Line {
     }
 }
 
-pub fn behaviour(line: Line, value: u32) -> Line {
+pub(crate) fn behaviour(line: Line, value: u32) -> Line {
     match value {
         BUFFER_AND_RETRANSMIT => line.text(b"BUFFER_AND_RETRANSMIT"),
         DISCARD_AND_NOTIFY => line.text(b"DISCARD_AND_NOTIFY"),
@@ -56,7 +56,7 @@ pub fn behaviour(line: Line, value: u32) -> Line {
     }
 }
 
-pub fn status(line: Line, status: u8) -> Line {
+pub(crate) fn status(line: Line, status: u8) -> Line {
     match status {
         ERROR_ACTIVE => line.text(b"ERROR_ACTIVE"),
         ERROR_PASSIVE => line.text(b"ERROR_PASSIVE"),
@@ -66,7 +66,7 @@ pub fn status(line: Line, status: u8) -> Line {
 }
 
 // What a fault is, in a few words.
-pub fn fault(line: Line, number: u8) -> Line {
+pub(crate) fn fault(line: Line, number: u8) -> Line {
     match number {
         1 => line.text(b"fewer than 8 bytes remain"),
         2 => line.text(b"length below 8 or past end"),

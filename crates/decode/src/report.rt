@@ -133,7 +133,7 @@ fn status(at: usize, status: u8) {
 }
 
 // The operation at a position, with its data.
-pub fn operation(at: usize, op: Operation, data: &[u8]) {
+pub(crate) fn operation(at: usize, op: Operation, data: &[u8]) {
     match op {
         Operation::FormatError { n } => format_error(at, n, data),
         Operation::CanTransmit { id, ide, rtr, dl } => can_transmit(at, id, ide, rtr, dl, data),
@@ -168,7 +168,7 @@ pub fn operation(at: usize, op: Operation, data: &[u8]) {
 }
 
 // The fault at a position, with its bytes.
-pub fn fault(at: usize, number: u8, bytes: &[u8]) {
+pub(crate) fn fault(at: usize, number: u8, bytes: &[u8]) {
     let line = start(at, b"fault")
         .text(b" ")
         .decimal(number as u64, 1)
