@@ -71,4 +71,8 @@ returns-4 c =
     sym (nodes-end (l .j) (a .s .count) (a .s) (a .a) (omega arith)) ∙ l .inv .2
 
 pub is-valid-spec : {M : Type 1} → statement M
-is-valid-spec = tie.close (tie.spec Inv-loop μ-loop returns returns-2 loop-holds cast-node-is-valid mul-node-is-valid array-copy-out-node-is-valid cast-node-is-valid-2 node-is-valid-requires returns-3 add-j loop-less loop-again returns-4)
+is-valid-spec =
+    tie.close
+    (tie.spec Inv-loop μ-loop returns returns-2 loop-holds cast-node-is-valid mul-node-is-valid
+    array-copy-out-node-is-valid cast-node-is-valid-2 node-is-valid-requires returns-3 add-j loop-less loop-again
+    returns-4)

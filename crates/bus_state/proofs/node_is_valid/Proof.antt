@@ -17,4 +17,7 @@ returns-2 : tie.Need-returns-2
 returns-2 c = c .slots-are-valid .ensures ∙ sym (node-good _ _ _ _ (sym (c .before .before .before .entry-is-valid .ensures) ∙ not-false _ (c .before .before .if1 .left)))
 
 pub node-is-valid-spec : {M : Type 1} → statement M
-node-is-valid-spec = tie.close (tie.spec (λ c κs. search needs) returns (λ c. search needs) (λ c. search needs) (λ c. search needs) slots-are-valid-requires returns-2)
+node-is-valid-spec =
+    tie.close
+    (tie.spec (λ c κs. search needs) returns (λ c. search needs) (λ c. search needs) (λ c. search needs)
+    slots-are-valid-requires returns-2)

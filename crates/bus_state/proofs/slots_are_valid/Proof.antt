@@ -53,4 +53,7 @@ returns-2 c =
     sym (slots-end (l .p) (a .end) (a .owner) (l .low) (a .now) (a .t1) (omega arith)) ∙ l .inv .1
 
 pub slots-are-valid-spec : {M : Type 1} → statement M
-slots-are-valid-spec = tie.close (tie.spec Inv-loop μ-loop loop-holds mul-s array-copy-out-s slot-is-valid-requires returns add-p loop-less loop-again returns-2)
+slots-are-valid-spec =
+    tie.close
+    (tie.spec Inv-loop μ-loop loop-holds mul-s array-copy-out-s slot-is-valid-requires returns add-p loop-less
+    loop-again returns-2)

@@ -25,4 +25,8 @@ returns-3 c =
     rw (← c .before .before .before .before .data-length .ensures, ← c .before .before .before .head-length .ensures .0, le-leb _ _ (c .before .before .if1 .left), le-leb _ _ (c .before .if2 .left), e)
 
 pub data-spec : {M : Type 1} → statement M
-data-spec = tie.close (tie.spec (λ c κs. search needs) (λ c. search needs) (λ c κs. search needs) (λ c. search needs) (λ c. search needs) returns (λ c. search needs) returns-2 (λ c. search needs) (λ c. search needs) (λ c. search needs) (λ c. search needs) returns-3)
+data-spec =
+    tie.close
+    (tie.spec (λ c κs. search needs) (λ c. search needs) (λ c κs. search needs) (λ c. search needs) (λ c. search needs)
+    returns (λ c. search needs) returns-2 (λ c. search needs) (λ c. search needs) (λ c. search needs)
+    (λ c. search needs) returns-3)

@@ -14,4 +14,6 @@ unfolding shapeOf judge
 returns-2 c = rw (le-leb 12 _ (c .before .before .before .if1 .left)) cc
 
 pub read-arbitration-lost-spec : {M : Type 1} → statement M
-read-arbitration-lost-spec = tie.close (tie.spec returns (λ c κs. search needs) (λ c κs. search needs) (λ c κs. search needs) returns-2)
+read-arbitration-lost-spec =
+    tie.close
+    (tie.spec returns (λ c κs. search needs) (λ c κs. search needs) (λ c κs. search needs) returns-2)

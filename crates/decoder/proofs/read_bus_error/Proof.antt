@@ -14,4 +14,7 @@ unfolding shapeOf judge
 returns-2 c = rw (le-leb 15 _ (c .before .before .before .before .before .before .if1 .left)) cc
 
 pub read-bus-error-spec : {M : Type 1} → statement M
-read-bus-error-spec = tie.close (tie.spec returns (λ c κs. search needs) (λ c κs. search needs) (λ c κs. search needs) (λ c κs. search needs) (λ c κs. search needs) (λ c κs. search needs) returns-2)
+read-bus-error-spec =
+    tie.close
+    (tie.spec returns (λ c κs. search needs) (λ c κs. search needs) (λ c κs. search needs) (λ c κs. search needs)
+    (λ c κs. search needs) (λ c κs. search needs) returns-2)

@@ -15,4 +15,7 @@ unfolding shapeOf judge
 returns-2 c = rw (c .give-verdict .ensures, c .before .configuration-is-legal .ensures, c .before .before .configuration-length .ensures .0, c .before .before .before .setting-at .ensures, c .before .before .before .before .byte-at .ensures, le-leb 9 _ (c .before .before .before .before .before .if1 .left), add-zero)
 
 pub read-configuration-spec : {M : Type 1} → statement M
-read-configuration-spec = tie.close (tie.spec returns (λ c κs. search needs) (λ c κs. search needs) (λ c κs. search needs) (λ c κs. search needs) (λ c κs. search needs) returns-2)
+read-configuration-spec =
+    tie.close
+    (tie.spec returns (λ c κs. search needs) (λ c κs. search needs) (λ c κs. search needs) (λ c κs. search needs)
+    (λ c κs. search needs) returns-2)

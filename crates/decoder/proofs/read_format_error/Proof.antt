@@ -15,4 +15,6 @@ unfolding shapeOf judge legal rules allAfter
 returns-2 c = rw (le-leb 10 _ (c .before .before .if1 .left)) cc
 
 pub read-format-error-spec : {M : Type 1} → statement M
-read-format-error-spec = tie.close (tie.spec returns (λ c κs. search needs) (λ c. search needs) (λ c. search needs) (λ c κs. search needs) returns-2)
+read-format-error-spec =
+    tie.close
+    (tie.spec returns (λ c κs. search needs) (λ c. search needs) (λ c. search needs) (λ c κs. search needs) returns-2)

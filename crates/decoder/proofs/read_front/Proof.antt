@@ -32,4 +32,7 @@ unfolding front
 returns-5 c = rw (ne-eqb _ 0 (c .before .before .before .before .before .before .if1 .left), le-ltb _ 8 (c .before .before .before .before .before .if2 .left), ← c .before .before .before .before .u32-at .ensures, le-ltb _ 8 (c .before .before .before .if3 .left), le-ltb _ _ (c .before .before .if4 .left)) (c .read-operation .ensures)
 
 pub read-front-spec : {M : Type 1} → statement M
-read-front-spec = tie.close (tie.spec returns returns-2 (λ c κs. search needs) (λ c. search needs) returns-3 returns-4 slice-aggregate-read-operation (λ c κs. search needs) returns-5)
+read-front-spec =
+    tie.close
+    (tie.spec returns returns-2 (λ c κs. search needs) (λ c. search needs) returns-3 returns-4
+    slice-aggregate-read-operation (λ c κs. search needs) returns-5)

@@ -50,4 +50,7 @@ unfolding over
 returns c = let l = c .before in simp (le-antisymm (l .loop .inv .1) (c .loop-test .left), take-length) at (l .loop .inv .0)
 
 pub put-spec : {M : Type 1} → statement M
-put-spec = tie.close (tie.spec Inv-loop μ-loop loop-holds shared-slice-read-buffer add-buffer slice-write-buffer add-i loop-less loop-again same-length returns)
+put-spec =
+    tie.close
+    (tie.spec Inv-loop μ-loop loop-holds shared-slice-read-buffer add-buffer slice-write-buffer add-i loop-less
+    loop-again same-length returns)

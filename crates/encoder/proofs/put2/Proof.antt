@@ -18,4 +18,7 @@ unfolding over
 returns c = let a = c .args in rw (add-one (a .at)) (sets-eq (littleEndian 2 (a .x)) (now (a .buffer)) (a .at) (omega arith))
 
 pub put2-spec : {M : Type 1} → statement M
-put2-spec = tie.close (tie.spec (λ c. search needs) (λ c. search needs) (λ c. search needs) (λ c. search needs) slice-write-buffer-2 (λ c. search needs) returns)
+put2-spec =
+    tie.close
+    (tie.spec (λ c. search needs) (λ c. search needs) (λ c. search needs) (λ c. search needs) slice-write-buffer-2
+    (λ c. search needs) returns)

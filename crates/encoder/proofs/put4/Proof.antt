@@ -26,4 +26,8 @@ returns c =
     rw (add-one (a .at), add-two (a .at), add-three (a .at)) (sets-eq (littleEndian 4 (a .x)) (now (a .buffer)) (a .at) (omega arith))
 
 pub put4-spec : {M : Type 1} → statement M
-put4-spec = tie.close (tie.spec (λ c. search needs) (λ c. search needs) (λ c. search needs) (λ c. search needs) slice-write-buffer-2 (λ c. search needs) (λ c. search needs) slice-write-buffer-3 (λ c. search needs) (λ c. search needs) slice-write-buffer-4 (λ c. search needs) returns)
+put4-spec =
+    tie.close
+    (tie.spec (λ c. search needs) (λ c. search needs) (λ c. search needs) (λ c. search needs) slice-write-buffer-2
+    (λ c. search needs) (λ c. search needs) slice-write-buffer-3 (λ c. search needs) (λ c. search needs)
+    slice-write-buffer-4 (λ c. search needs) returns)

@@ -10,7 +10,17 @@ use Rattle.encoder.proofs.put_behaviour.Tie as tie
 
 returns : tie.Need-returns
 unfolding header
-returns c = let a = c .before .before .before .before .before .before .before .before .before .before .before .before .before .args in rw (c .before .before .put12 .ensures, c .before .before .before .before .before .before .put1 .ensures, c .before .before .before .before .before .before .before .before .before .before .put-start .ensures) (in-turn (now (a .buffer)) ((littleEndian 4 0x40 ++ littleEndian 4 10) ∷ (4 ∷ []) ∷ (littleEndian 1 (a .value)) ∷ []))
+returns c =
+    let s3 = c .before .before in
+    let s2 = s3 .before .before .before .before in
+    let s1 = s2 .before .before .before .before in
+    let s0 = s1 .before .before .before in
+    let a = s0 .args in
+    rw (s3 .put12 .ensures, s2 .put1 .ensures, s1 .put-start .ensures)
+    (in-turn (now (a .buffer)) ((littleEndian 4 0x40 ++ littleEndian 4 10) ∷ (4 ∷ []) ∷ (littleEndian 1 (a .value)) ∷ []))
 
 pub put-behaviour-spec : {M : Type 1} → statement M
-put-behaviour-spec = tie.close (tie.spec (λ c κs. search needs) (λ c κs. search needs) (λ c. search needs) (λ c κs. search needs) (λ c. search needs) returns)
+put-behaviour-spec =
+    tie.close
+    (tie.spec (λ c κs. search needs) (λ c κs. search needs) (λ c. search needs) (λ c κs. search needs)
+    (λ c. search needs) returns)

@@ -10,7 +10,19 @@ use Rattle.encoder.proofs.put_bus_error.Tie as tie
 
 returns : tie.Need-returns
 unfolding header
-returns c = let a = c .before .before .before .before .before .before .before .before .before .before .before .before .before .before .before .before .before .before .before .before .before .args in rw (c .before .before .put13 .ensures, c .before .before .before .before .before .before .put12 .ensures, c .before .before .before .before .before .before .before .before .before .before .put1 .ensures, c .before .before .before .before .before .before .before .before .before .before .before .before .before .before .put4 .ensures, c .before .before .before .before .before .before .before .before .before .before .before .before .before .before .before .before .before .before .put-start .ensures) (in-turn (now (a .buffer)) ((littleEndian 4 0x31 ++ littleEndian 4 15) ∷ (littleEndian 4 (a .id)) ∷ (a .code ∷ []) ∷ (a .flag ∷ []) ∷ (a .sender ∷ []) ∷ []))
+returns c =
+    let s5 = c .before .before in
+    let s4 = s5 .before .before .before .before in
+    let s3 = s4 .before .before .before .before in
+    let s2 = s3 .before .before .before .before in
+    let s1 = s2 .before .before .before .before in
+    let s0 = s1 .before .before .before in
+    let a = s0 .args in
+    rw (s5 .put13 .ensures, s4 .put12 .ensures, s3 .put1 .ensures, s2 .put4 .ensures, s1 .put-start .ensures)
+    (in-turn (now (a .buffer)) ((littleEndian 4 0x31 ++ littleEndian 4 15) ∷ (littleEndian 4 (a .id)) ∷ (a .code ∷ []) ∷ (a .flag ∷ []) ∷ (a .sender ∷ []) ∷ []))
 
 pub put-bus-error-spec : {M : Type 1} → statement M
-put-bus-error-spec = tie.close (tie.spec (λ c κs. search needs) (λ c κs. search needs) (λ c κs. search needs) (λ c κs. search needs) (λ c κs. search needs) (λ c. search needs) returns)
+put-bus-error-spec =
+    tie.close
+    (tie.spec (λ c κs. search needs) (λ c κs. search needs) (λ c κs. search needs) (λ c κs. search needs)
+    (λ c κs. search needs) (λ c. search needs) returns)

@@ -10,7 +10,13 @@ use Rattle.encoder.proofs.put_confirm.Tie as tie
 
 returns : tie.Need-returns
 unfolding header
-returns c = let a = c .before .before .before .before .before .before .before .before .before .args in rw (c .before .before .put4 .ensures, c .before .before .before .before .before .before .put-start .ensures) (in-turn (now (a .buffer)) ((littleEndian 4 0x20 ++ littleEndian 4 12) ∷ (littleEndian 4 (a .id)) ∷ []))
+returns c =
+    let s2 = c .before .before in
+    let s1 = s2 .before .before .before .before in
+    let s0 = s1 .before .before .before in
+    let a = s0 .args in
+    rw (s2 .put4 .ensures, s1 .put-start .ensures)
+    (in-turn (now (a .buffer)) ((littleEndian 4 0x20 ++ littleEndian 4 12) ∷ (littleEndian 4 (a .id)) ∷ []))
 
 pub put-confirm-spec : {M : Type 1} → statement M
 put-confirm-spec = tie.close (tie.spec (λ c κs. search needs) (λ c κs. search needs) (λ c. search needs) returns)

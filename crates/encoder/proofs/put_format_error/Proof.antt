@@ -10,7 +10,13 @@ use Rattle.encoder.proofs.put_format_error.Tie as tie
 
 returns : tie.Need-returns
 unfolding header
-returns c = let a = c .before .before .before .before .before .before .before .before .before .args in rw (c .before .before .put2 .ensures, c .before .before .before .before .before .before .put-start .ensures, ← c .before .before .before .before .before .before .before .before .before .pre .1) (in-turn (now (a .buffer)) ((littleEndian 4 0x01 ++ littleEndian 4 (a .size)) ∷ (littleEndian 2 (a .n)) ∷ []))
+returns c =
+    let s2 = c .before .before in
+    let s1 = s2 .before .before .before .before in
+    let s0 = s1 .before .before .before in
+    let a = s0 .args in
+    rw (s2 .put2 .ensures, s1 .put-start .ensures, ← s0 .pre .1)
+    (in-turn (now (a .buffer)) ((littleEndian 4 0x01 ++ littleEndian 4 (a .size)) ∷ (littleEndian 2 (a .n)) ∷ []))
 
 pub put-format-error-spec : {M : Type 1} → statement M
 put-format-error-spec = tie.close (tie.spec (λ c κs. search needs) (λ c κs. search needs) (λ c. search needs) returns)

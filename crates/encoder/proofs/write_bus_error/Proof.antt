@@ -9,22 +9,36 @@ use Rattle.encoder.proofs.write_bus_error.Statement.{statement}
 use Rattle.encoder.proofs.write_bus_error.Tie as tie
 
 put-bus-error-requires : tie.Need-put-bus-error-requires
-put-bus-error-requires c κs = let a = accepted (sym (answers (BusError (c .before .before .before .before .before .before .before .before .args .id) (c .before .before .before .before .before .before .before .before .args .code) (c .before .before .before .before .before .before .before .before .args .flag) (c .before .before .before .before .before .before .before .before .args .sender)) _ _ (c .before .before .before .before .before .bus-error-is-legal .ensures) (c .before .before .before .before .decide .ensures)) ∙ c .before .before .answer .given .1) in omega (arith, a .size, a .fits)
+put-bus-error-requires c κs =
+    let d = c .before .before .before .before in
+    let a = d .before .before .before .before .args in
+    let e = sym (answers (BusError (a .id) (a .code) (a .flag) (a .sender)) _ _ (d .before .bus-error-is-legal .ensures) (d .decide .ensures)) ∙ c .before .before .answer .given .1 in
+    let w = accepted e in
+    omega (arith, w .size, w .fits)
 
 returns : tie.Need-returns
 returns c =
-    let e = sym (answers (BusError (c .before .before .before .before .before .before .before .before .before .before .before .args .id) (c .before .before .before .before .before .before .before .before .before .before .before .args .code) (c .before .before .before .before .before .before .before .before .before .before .before .args .flag) (c .before .before .before .before .before .before .before .before .before .before .before .args .sender)) _ _ (c .before .before .before .before .before .before .before .before .bus-error-is-legal .ensures) (c .before .before .before .before .before .before .before .decide .ensures)) ∙ c .before .before .before .before .before .answer .given .1 in
-    (sym e, written-bare (BusError (c .before .before .before .before .before .before .before .before .before .before .before .args .id) (c .before .before .before .before .before .before .before .before .before .before .before .args .code) (c .before .before .before .before .before .before .before .before .before .before .before .args .flag) (c .before .before .before .before .before .before .before .before .before .before .before .args .sender)) (now (c .before .before .before .before .before .before .before .before .before .before .before .args .payload)) (now (c .before .before .before .before .before .before .before .before .before .before .before .args .buffer)) e refl (c .before .before .put-bus-error .ensures))
+    let d = c .before .before .before .before .before .before .before in
+    let a = d .before .before .before .before .args in
+    let e = sym (answers (BusError (a .id) (a .code) (a .flag) (a .sender)) _ _ (d .before .bus-error-is-legal .ensures) (d .decide .ensures)) ∙ c .before .before .before .before .before .answer .given .1 in
+    (sym e, written-bare (BusError (a .id) (a .code) (a .flag) (a .sender)) (now (a .payload)) (now (a .buffer)) e refl (c .before .before .put-bus-error .ensures))
 
 returns-2 : tie.Need-returns-2
 returns-2 c =
-    let e = answers (BusError (c .before .before .before .before .before .before .args .id) (c .before .before .before .before .before .before .args .code) (c .before .before .before .before .before .before .args .flag) (c .before .before .before .before .before .before .args .sender)) _ _ (c .before .before .before .bus-error-is-legal .ensures) (c .before .before .decide .ensures) in
+    let d = c .before .before in
+    let a = d .before .before .before .before .args in
+    let e = answers (BusError (a .id) (a .code) (a .flag) (a .sender)) _ _ (d .before .bus-error-is-legal .ensures) (d .decide .ensures) in
     (e, kept _ _ _ (sym e ∙ c .enum-told .given .1) refl)
 
 returns-3 : tie.Need-returns-3
 returns-3 c =
-    let e = answers (BusError (c .before .before .before .before .before .before .args .id) (c .before .before .before .before .before .before .args .code) (c .before .before .before .before .before .before .args .flag) (c .before .before .before .before .before .before .args .sender)) _ _ (c .before .before .before .bus-error-is-legal .ensures) (c .before .before .decide .ensures) in
+    let d = c .before .before in
+    let a = d .before .before .before .before .args in
+    let e = answers (BusError (a .id) (a .code) (a .flag) (a .sender)) _ _ (d .before .bus-error-is-legal .ensures) (d .decide .ensures) in
     (e, kept _ _ _ (sym e ∙ c .enum-told2 .given .1) refl)
 
 pub write-bus-error-spec : {M : Type 1} → statement M
-write-bus-error-spec = tie.close (tie.spec (λ c κs. search needs) (λ c κs. search needs) (λ c. search needs) put-bus-error-requires (λ c. search needs) (λ c. search needs) (λ c. search needs) returns returns-2 returns-3)
+write-bus-error-spec =
+    tie.close
+    (tie.spec (λ c κs. search needs) (λ c κs. search needs) (λ c. search needs) put-bus-error-requires
+    (λ c. search needs) (λ c. search needs) (λ c. search needs) returns returns-2 returns-3)

@@ -9,28 +9,51 @@ use Rattle.encoder.proofs.write_can.Statement.{statement}
 use Rattle.encoder.proofs.write_can.Tie as tie
 
 cast-put-can : tie.Need-cast-put-can
-cast-put-can c = omega (arith, size-small (accepted (sym (answers (CanTransmit (c .before .before .before .before .before .before .before .before .args .id) (c .before .before .before .before .before .before .before .before .args .ide) (c .before .before .before .before .before .before .before .before .args .rtr) (c .before .before .before .before .before .before .before .before .args .dl)) _ _ (c .before .before .before .before .before .can-is-legal .ensures) (c .before .before .before .before .decide .ensures)) ∙ c .before .before .answer .given .1)))
+cast-put-can c =
+    let d = c .before .before .before .before in
+    let a = d .before .before .before .before .args in
+    let e = sym (answers (CanTransmit (a .id) (a .ide) (a .rtr) (a .dl)) _ _ (d .before .can-is-legal .ensures) (d .decide .ensures)) ∙ c .before .before .answer .given .1 in
+    omega (arith, size-small (accepted e))
 
 put-can-requires : tie.Need-put-can-requires
-put-can-requires c κs = let a = accepted (sym (answers (CanTransmit (c .before .before .before .before .before .before .before .before .args .id) (c .before .before .before .before .before .before .before .before .args .ide) (c .before .before .before .before .before .before .before .before .args .rtr) (c .before .before .before .before .before .before .before .before .args .dl)) _ _ (c .before .before .before .before .before .can-is-legal .ensures) (c .before .before .before .before .decide .ensures)) ∙ c .before .before .answer .given .1) in (omega (arith, a .size, a .fits), a .size)
+put-can-requires c κs =
+    let d = c .before .before .before .before in
+    let a = d .before .before .before .before .args in
+    let e = sym (answers (CanTransmit (a .id) (a .ide) (a .rtr) (a .dl)) _ _ (d .before .can-is-legal .ensures) (d .decide .ensures)) ∙ c .before .before .answer .given .1 in
+    let w = accepted e in
+    (omega (arith, w .size, w .fits), w .size)
 
 put-requires : tie.Need-put-requires
-put-requires c κs = let a = accepted (sym (answers (CanTransmit (c .before .before .before .before .before .before .before .before .before .before .before .before .args .id) (c .before .before .before .before .before .before .before .before .before .before .before .before .args .ide) (c .before .before .before .before .before .before .before .before .before .before .before .before .args .rtr) (c .before .before .before .before .before .before .before .before .before .before .before .before .args .dl)) _ _ (c .before .before .before .before .before .before .before .before .before .can-is-legal .ensures) (c .before .before .before .before .before .before .before .before .decide .ensures)) ∙ c .before .before .before .before .before .before .answer .given .1) in omega (arith, a .size, a .whole, a .fits)
+put-requires c κs =
+    let d = c .before .before .before .before .before .before .before .before in
+    let a = d .before .before .before .before .args in
+    let e = sym (answers (CanTransmit (a .id) (a .ide) (a .rtr) (a .dl)) _ _ (d .before .can-is-legal .ensures) (d .decide .ensures)) ∙ c .before .before .before .before .before .before .answer .given .1 in
+    let w = accepted e in
+    omega (arith, w .size, w .whole, w .fits)
 
 returns : tie.Need-returns
 returns c =
-    let e = sym (answers (CanTransmit (c .before .before .before .before .before .before .before .before .before .before .before .before .before .before .before .args .id) (c .before .before .before .before .before .before .before .before .before .before .before .before .before .before .before .args .ide) (c .before .before .before .before .before .before .before .before .before .before .before .before .before .before .before .args .rtr) (c .before .before .before .before .before .before .before .before .before .before .before .before .before .before .before .args .dl)) _ _ (c .before .before .before .before .before .before .before .before .before .before .before .before .can-is-legal .ensures) (c .before .before .before .before .before .before .before .before .before .before .before .decide .ensures)) ∙ c .before .before .before .before .before .before .before .before .before .answer .given .1 in
-    (sym e, written (CanTransmit (c .before .before .before .before .before .before .before .before .before .before .before .before .before .before .before .args .id) (c .before .before .before .before .before .before .before .before .before .before .before .before .before .before .before .args .ide) (c .before .before .before .before .before .before .before .before .before .before .before .before .before .before .before .args .rtr) (c .before .before .before .before .before .before .before .before .before .before .before .before .before .before .before .args .dl)) (now (c .before .before .before .before .before .before .before .before .before .before .before .before .before .before .before .args .payload)) (now (c .before .before .before .before .before .before .before .before .before .before .before .before .before .before .before .args .buffer)) e (c .before .before .before .before .before .before .put-can .ensures) (c .before .before .put .ensures))
+    let d = c .before .before .before .before .before .before .before .before .before .before .before in
+    let a = d .before .before .before .before .args in
+    let e = sym (answers (CanTransmit (a .id) (a .ide) (a .rtr) (a .dl)) _ _ (d .before .can-is-legal .ensures) (d .decide .ensures)) ∙ c .before .before .before .before .before .before .before .before .before .answer .given .1 in
+    (sym e, written (CanTransmit (a .id) (a .ide) (a .rtr) (a .dl)) (now (a .payload)) (now (a .buffer)) e (c .before .before .before .before .before .before .put-can .ensures) (c .before .before .put .ensures))
 
 returns-2 : tie.Need-returns-2
 returns-2 c =
-    let e = answers (CanTransmit (c .before .before .before .before .before .before .args .id) (c .before .before .before .before .before .before .args .ide) (c .before .before .before .before .before .before .args .rtr) (c .before .before .before .before .before .before .args .dl)) _ _ (c .before .before .before .can-is-legal .ensures) (c .before .before .decide .ensures) in
+    let d = c .before .before in
+    let a = d .before .before .before .before .args in
+    let e = answers (CanTransmit (a .id) (a .ide) (a .rtr) (a .dl)) _ _ (d .before .can-is-legal .ensures) (d .decide .ensures) in
     (e, kept _ _ _ (sym e ∙ c .enum-told .given .1) refl)
 
 returns-3 : tie.Need-returns-3
 returns-3 c =
-    let e = answers (CanTransmit (c .before .before .before .before .before .before .args .id) (c .before .before .before .before .before .before .args .ide) (c .before .before .before .before .before .before .args .rtr) (c .before .before .before .before .before .before .args .dl)) _ _ (c .before .before .before .can-is-legal .ensures) (c .before .before .decide .ensures) in
+    let d = c .before .before in
+    let a = d .before .before .before .before .args in
+    let e = answers (CanTransmit (a .id) (a .ide) (a .rtr) (a .dl)) _ _ (d .before .can-is-legal .ensures) (d .decide .ensures) in
     (e, kept _ _ _ (sym e ∙ c .enum-told2 .given .1) refl)
 
 pub write-can-spec : {M : Type 1} → statement M
-write-can-spec = tie.close (tie.spec (λ c κs. search needs) (λ c κs. search needs) (λ c. search needs) cast-put-can put-can-requires put-requires (λ c. search needs) (λ c. search needs) (λ c. search needs) returns returns-2 returns-3)
+write-can-spec =
+    tie.close
+    (tie.spec (λ c κs. search needs) (λ c κs. search needs) (λ c. search needs) cast-put-can put-can-requires
+    put-requires (λ c. search needs) (λ c. search needs) (λ c. search needs) returns returns-2 returns-3)

@@ -12,36 +12,54 @@ use Rattle.encoder.proofs.write_configuration.Tie as tie
 
 put-behaviour-requires : tie.Need-put-behaviour-requires
 put-behaviour-requires c κs =
-    let a = accepted (sym (answers (Configuration (c .before .before .before .before .before .before .before .before .before .before .args .kind) (c .before .before .before .before .before .before .before .before .before .before .args .value)) _ _ (c .before .before .before .before .before .before .before .configuration-is-legal .ensures) (rw (c .before .before .before .before .before .before .configuration-length .ensures .0) at (c .before .before .before .before .before .decide .ensures))) ∙ c .before .before .before .answer .given .1) in
-    let n = rw (c .before .if1 .taken) at (a .size) in
-    omega (arith, n, a .fits)
+    let d = c .before .before .before .before .before in
+    let a = d .before .before .before .before .before .args in
+    let e = sym (answers (Configuration (a .kind) (a .value)) _ _ (d .before .before .configuration-is-legal .ensures) (rw (d .before .configuration-length .ensures .0) at (d .decide .ensures))) ∙ c .before .before .before .answer .given .1 in
+    let w = accepted e in
+    let n = rw (c .before .if1 .taken) at (w .size) in
+    omega (arith, n, w .fits)
 
 returns : tie.Need-returns
 returns c =
-    let e = sym (answers (Configuration (c .before .before .before .before .before .before .before .before .before .before .before .before .before .args .kind) (c .before .before .before .before .before .before .before .before .before .before .before .before .before .args .value)) _ _ (c .before .before .before .before .before .before .before .before .before .before .configuration-is-legal .ensures) (rw (c .before .before .before .before .before .before .before .before .before .configuration-length .ensures .0) at (c .before .before .before .before .before .before .before .before .decide .ensures))) ∙ c .before .before .before .before .before .before .answer .given .1 in
-    (sym e, written-bare (Configuration (c .before .before .before .before .before .before .before .before .before .before .before .before .before .args .kind) (c .before .before .before .before .before .before .before .before .before .before .before .before .before .args .value)) (now (c .before .before .before .before .before .before .before .before .before .before .before .before .before .args .payload)) (now (c .before .before .before .before .before .before .before .before .before .before .before .before .before .args .buffer)) e refl (rw (c .before .before .before .before .if1 .taken) (c .before .before .put-behaviour .ensures)))
+    let d = c .before .before .before .before .before .before .before .before in
+    let a = d .before .before .before .before .before .args in
+    let e = sym (answers (Configuration (a .kind) (a .value)) _ _ (d .before .before .configuration-is-legal .ensures) (rw (d .before .configuration-length .ensures .0) at (d .decide .ensures))) ∙ c .before .before .before .before .before .before .answer .given .1 in
+    (sym e, written-bare (Configuration (a .kind) (a .value)) (now (a .payload)) (now (a .buffer)) e refl (rw (c .before .before .before .before .if1 .taken) (c .before .before .put-behaviour .ensures)))
 
 put-baud-rate-requires : tie.Need-put-baud-rate-requires
 put-baud-rate-requires c κs =
-    let a = accepted (sym (answers (Configuration (c .before .before .before .before .before .before .before .before .before .before .args .kind) (c .before .before .before .before .before .before .before .before .before .before .args .value)) _ _ (c .before .before .before .before .before .before .before .configuration-is-legal .ensures) (rw (c .before .before .before .before .before .before .configuration-length .ensures .0) at (c .before .before .before .before .before .decide .ensures))) ∙ c .before .before .before .answer .given .1) in
+    let d = c .before .before .before .before .before in
+    let a = d .before .before .before .before .before .args in
+    let e = sym (answers (Configuration (a .kind) (a .value)) _ _ (d .before .before .configuration-is-legal .ensures) (rw (d .before .configuration-length .ensures .0) at (d .decide .ensures))) ∙ c .before .before .before .answer .given .1 in
+    let w = accepted e in
     let q = ne-eqb _ _ (c .before .if1 .left) in
-    let n = baud-length _ _ (a .lawful) q in
-    (omega (arith, a .size, a .fits, n), (q, n))
+    let n = baud-length _ _ (w .lawful) q in
+    (omega (arith, w .size, w .fits, n), (q, n))
 
 returns-2 : tie.Need-returns-2
 returns-2 c =
-    let e = sym (answers (Configuration (c .before .before .before .before .before .before .before .before .before .before .before .before .before .args .kind) (c .before .before .before .before .before .before .before .before .before .before .before .before .before .args .value)) _ _ (c .before .before .before .before .before .before .before .before .before .before .configuration-is-legal .ensures) (rw (c .before .before .before .before .before .before .before .before .before .configuration-length .ensures .0) at (c .before .before .before .before .before .before .before .before .decide .ensures))) ∙ c .before .before .before .before .before .before .answer .given .1 in
-    (sym e, written-bare (Configuration (c .before .before .before .before .before .before .before .before .before .before .before .before .before .args .kind) (c .before .before .before .before .before .before .before .before .before .before .before .before .before .args .value)) (now (c .before .before .before .before .before .before .before .before .before .before .before .before .before .args .payload)) (now (c .before .before .before .before .before .before .before .before .before .before .before .before .before .args .buffer)) e refl (c .before .before .put-baud-rate .ensures))
+    let d = c .before .before .before .before .before .before .before .before in
+    let a = d .before .before .before .before .before .args in
+    let e = sym (answers (Configuration (a .kind) (a .value)) _ _ (d .before .before .configuration-is-legal .ensures) (rw (d .before .configuration-length .ensures .0) at (d .decide .ensures))) ∙ c .before .before .before .before .before .before .answer .given .1 in
+    (sym e, written-bare (Configuration (a .kind) (a .value)) (now (a .payload)) (now (a .buffer)) e refl (c .before .before .put-baud-rate .ensures))
 
 returns-3 : tie.Need-returns-3
 returns-3 c =
-    let e = answers (Configuration (c .before .before .before .before .before .before .before .args .kind) (c .before .before .before .before .before .before .before .args .value)) _ _ (c .before .before .before .before .configuration-is-legal .ensures) (rw (c .before .before .before .configuration-length .ensures .0) at (c .before .before .decide .ensures)) in
+    let d = c .before .before in
+    let a = d .before .before .before .before .before .args in
+    let e = answers (Configuration (a .kind) (a .value)) _ _ (d .before .before .configuration-is-legal .ensures) (rw (d .before .configuration-length .ensures .0) at (d .decide .ensures)) in
     (e, kept _ _ _ (sym e ∙ c .enum-told .given .1) refl)
 
 returns-4 : tie.Need-returns-4
 returns-4 c =
-    let e = answers (Configuration (c .before .before .before .before .before .before .before .args .kind) (c .before .before .before .before .before .before .before .args .value)) _ _ (c .before .before .before .before .configuration-is-legal .ensures) (rw (c .before .before .before .configuration-length .ensures .0) at (c .before .before .decide .ensures)) in
+    let d = c .before .before in
+    let a = d .before .before .before .before .before .args in
+    let e = answers (Configuration (a .kind) (a .value)) _ _ (d .before .before .configuration-is-legal .ensures) (rw (d .before .configuration-length .ensures .0) at (d .decide .ensures)) in
     (e, kept _ _ _ (sym e ∙ c .enum-told2 .given .1) refl)
 
 pub write-configuration-spec : {M : Type 1} → statement M
-write-configuration-spec = tie.close (tie.spec (λ c κs. search needs) (λ c κs. search needs) (λ c κs. search needs) (λ c. search needs) put-behaviour-requires (λ c. search needs) returns put-baud-rate-requires (λ c. search needs) (λ c. search needs) (λ c. search needs) returns-2 returns-3 returns-4)
+write-configuration-spec =
+    tie.close
+    (tie.spec (λ c κs. search needs) (λ c κs. search needs) (λ c κs. search needs) (λ c. search needs)
+    put-behaviour-requires (λ c. search needs) returns put-baud-rate-requires (λ c. search needs) (λ c. search needs)
+    (λ c. search needs) returns-2 returns-3 returns-4)

@@ -18,4 +18,7 @@ returns-3 : tie.Need-returns-3
 returns-3 c = rw (← c .before .before .operation-of .ensures, c .enum-told .given .1)
 
 pub kf-data-spec : {M : Type 1} → statement M
-kf-data-spec = tie.close (tie.spec (λ c κs. search needs) (λ c. search needs) (λ c κs. search needs) returns sub-t11 (λ c. search needs) returns-2 returns-3)
+kf-data-spec =
+    tie.close
+    (tie.spec (λ c κs. search needs) (λ c. search needs) (λ c κs. search needs) returns sub-t11 (λ c. search needs)
+    returns-2 returns-3)

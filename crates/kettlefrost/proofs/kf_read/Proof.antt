@@ -13,4 +13,7 @@ returns-3 : tie.Need-returns-3
 returns-3 c = rw (← c .before .before .before .before .read .ensures, c .before .before .reading2 .given .1, c .flatten .ensures)
 
 pub kf-read-spec : {M : Type 1} → statement M
-kf-read-spec = tie.close (tie.spec (λ c κs. search needs) (λ c. search needs) (λ c κs. search needs) (λ c. search needs) (λ c κs. search needs) (λ c. search needs) (λ c. search needs) (λ c κs. search needs) returns returns-2 returns-3)
+kf-read-spec =
+    tie.close
+    (tie.spec (λ c κs. search needs) (λ c. search needs) (λ c κs. search needs) (λ c. search needs)
+    (λ c κs. search needs) (λ c. search needs) (λ c. search needs) (λ c κs. search needs) returns returns-2 returns-3)

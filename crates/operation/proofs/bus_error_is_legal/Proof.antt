@@ -9,4 +9,6 @@ unfolding allAfter rules legal
 returns c = rw (c .is-bit .ensures, c .before .is-error-flag .ensures, c .before .before .is-error-code .ensures)
 
 pub bus-error-is-legal-spec : {M : Type 1} → statement M
-bus-error-is-legal-spec = tie.close (tie.spec (λ c κs. search needs) (λ c κs. search needs) (λ c κs. search needs) returns)
+bus-error-is-legal-spec =
+    tie.close
+    (tie.spec (λ c κs. search needs) (λ c κs. search needs) (λ c κs. search needs) returns)

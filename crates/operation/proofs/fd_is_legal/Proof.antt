@@ -9,4 +9,7 @@ unfolding allAfter rules legal
 returns c = rw (c .is-fd-length .ensures, c .before .is-bit3 .ensures, c .before .before .is-bit2 .ensures, c .before .before .before .max-id .ensures, c .before .before .before .before .is-bit .ensures)
 
 pub fd-is-legal-spec : {M : Type 1} → statement M
-fd-is-legal-spec = tie.close (tie.spec (λ c κs. search needs) (λ c κs. search needs) (λ c κs. search needs) (λ c κs. search needs) (λ c κs. search needs) returns)
+fd-is-legal-spec =
+    tie.close
+    (tie.spec (λ c κs. search needs) (λ c κs. search needs) (λ c κs. search needs) (λ c κs. search needs)
+    (λ c κs. search needs) returns)

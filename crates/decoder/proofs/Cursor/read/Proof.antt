@@ -30,4 +30,7 @@ returns-4 : tie.Need-returns-4
 returns-4 c = reads _ _ (sym (c .before .before .before .read-front .ensures) ∙ c .before .op .given .1)
 
 pub read-spec : {M : Type 1} → statement M
-read-spec = tie.close (tie.spec returns (λ c. search needs) (λ c. search needs) (λ c. search needs) (λ c κs. search needs) (λ c. search needs) (λ c. search needs) add-t15 (λ c. search needs) add-t17 returns-2 returns-3 returns-4)
+read-spec =
+    tie.close
+    (tie.spec returns (λ c. search needs) (λ c. search needs) (λ c. search needs) (λ c κs. search needs)
+    (λ c. search needs) (λ c. search needs) add-t15 (λ c. search needs) add-t17 returns-2 returns-3 returns-4)
