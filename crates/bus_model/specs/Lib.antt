@@ -1,0 +1,4 @@
+pub mod Primitives
+pub mod Submit
+pub mod Round
+pub mod Calls
