@@ -2,3 +2,4 @@ pub mod Primitives
 pub mod Submit
 pub mod Round
 pub mod Calls
+pub mod Refines
