@@ -1,3 +1,4 @@
 pub mod Offsets
 pub mod Writes
 pub mod Views
+pub mod Frames

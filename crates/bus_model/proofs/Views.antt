@@ -37,7 +37,7 @@ pub record Moved (m m′ : Memory) (p p′ : ℕ) : Type 0 where
   pub slot : slotAt m′ p′ ≡ slotAt m p
   pub bytes : part (2_048 * p′) (dataLength (operationAt m p)) (m′ .payload) ≡ dataAtSlot m p
 
-frame-moved : {m m′ : Memory} {p p′ : ℕ} → Moved m m′ p p′ → frameAt m′ p′ ≡ frameAt m p
+pub frame-moved : {m m′ : Memory} {p p′ : ℕ} → Moved m m′ p p′ → frameAt m′ p′ ≡ frameAt m p
 unfolding frameAt
 frame-moved {m} {m′} {p} {p′} v = rw (v .slot, v .bytes)
 

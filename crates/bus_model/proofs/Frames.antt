@@ -1,0 +1,229 @@
+-- What the view says after a frame is put, and after one is removed: at its node, and at every other.
+-- Assumes nothing.
+use mathlib.Core.Path.{_≡_, refl, sym, ap, _∙_}
+use Prim.Native.Nat.{ℕ, zero, suc, _+_, _-_, _*_, _≤_, _<_}
+use native.Mathlib.Omega.{arith}
+use native.Mathlib.Nat.{add-zero}
+use native.Mathlib.Numerals.{add-one}
+use mathlib.Core.Logic.{_⊎_, inl, inr}
+use mathlib.Core.Bool.{Bool, true, false}
+use mathlib.Core.List.{List, [], _∷_, _++_}
+use lib.Dec.{ltb}
+use lib.ListN.{length}
+use borrow.Author.Tests.{ltb-true, ltb-false}
+use Rattle.operation.specs.Format.{dataLength, encode}
+use Rattle.operation.specs.declared.Operation.{Operation}
+use Rattle.operation.specs.declared.Operation.the-variants.{FormatError, CanTransmit, FdTransmit, XlTransmit, Confirm, ArbitrationLost, BusError, Configuration, Status, Wakeup}
+use Rattle.operation.proofs.Tests.{false-is-true}
+use Rattle.slots.specs.Slots.{contentOf, slotOf}
+use Rattle.slots.specs.declared.Content.the-variants.{Transmit}
+use Rattle.plain_bus.specs.Kinds.{isTransmit}
+use Rattle.plain_bus.specs.Held.{Frame, Node, withPending}
+use Rattle.plain_bus.specs.Submit.{accept}
+use Rattle.plain_bus.specs.Round.{without}
+use Rattle.bus_state.specs.Memory.{Memory, operationAt, dataAtSlot, slotAt, part, frameAt, framesFrom, nodeView}
+use Rattle.bus_model.specs.Primitives.{entryAt, setEntry, fillSlot, nextSlot, putFrame, moveDown, removeFrame}
+use Rattle.bus_model.specs.Refines.{Sized}
+use Rattle.bus_model.proofs.Offsets.{length-part}
+use Rattle.bus_model.proofs.Writes.{Same, same-trans, entry-own, entry-others, entry-sized, slot-own, slot-other, bytes-own, bytes-other, slot-sized}
+use Rattle.bus_model.proofs.Views.{Fits, Moved, frame-moved, frames-moved, frames-snoc, entryView, entry-view}
+
+-- ---- the slot of a Transmit
+
+pub slot-content : (op : Operation) (owner accepted : ℕ) → isTransmit op ≡ true → contentOf (slotOf op owner accepted) ≡ Transmit op
+unfolding contentOf slotOf
+slot-content (FormatError n) owner accepted t = false-is-true t
+slot-content (CanTransmit id ide rtr dl) owner accepted t = refl
+slot-content (FdTransmit id ide brs esi dl) owner accepted t = refl
+slot-content (XlTransmit id ide sec sdt vcid af dl) owner accepted t = refl
+slot-content (Confirm id) owner accepted t = false-is-true t
+slot-content (ArbitrationLost id) owner accepted t = false-is-true t
+slot-content (BusError id code flag sender) owner accepted t = false-is-true t
+slot-content (Configuration kind value) owner accepted t = false-is-true t
+slot-content (Status status) owner accepted t = false-is-true t
+slot-content Wakeup owner accepted t = false-is-true t
+
+pub slot-signed : (op : Operation) (owner accepted : ℕ) → isTransmit op ≡ true
+    → (slotOf op owner accepted .accepted ≡ accepted) × (slotOf op owner accepted .owner ≡ owner)
+unfolding slotOf
+slot-signed (FormatError n) owner accepted t = false-is-true t
+slot-signed (CanTransmit id ide rtr dl) owner accepted t = (refl, refl)
+slot-signed (FdTransmit id ide brs esi dl) owner accepted t = (refl, refl)
+slot-signed (XlTransmit id ide sec sdt vcid af dl) owner accepted t = (refl, refl)
+slot-signed (Confirm id) owner accepted t = false-is-true t
+slot-signed (ArbitrationLost id) owner accepted t = false-is-true t
+slot-signed (BusError id code flag sender) owner accepted t = false-is-true t
+slot-signed (Configuration kind value) owner accepted t = false-is-true t
+slot-signed (Status status) owner accepted t = false-is-true t
+slot-signed Wakeup owner accepted t = false-is-true t
+
+-- ---- a frame is put
+
+-- its slot and its data are written
+abbrev laid : Memory → ℕ → Operation → List ℕ → Memory
+laid m j op bytes = fillSlot m (nextSlot m j) (slotOf op j (m .state .round)) bytes
+
+module _ (m : Memory) (j : ℕ) (op : Operation) (bytes : List ℕ) (s : Sized m) (h : j < 8) (few : entryAt m j .pending < 4)
+    (l : length bytes ≤ 2_048) where
+  laid-moved : (r : ℕ) → (r ≡ nextSlot m j → ⊥) → dataLength (operationAt m r) ≤ 2_048 → Moved m (laid m j op bytes) r r
+  laid-moved r n k = record {
+    slot = slot-other m (nextSlot m j) (slotOf op j (m .state .round)) bytes s (omega arith) l r n;
+    bytes = bytes-other m (nextSlot m j) (slotOf op j (m .state .round)) bytes s (omega arith) l r _ n k;
+  }
+
+  laid-frame : isTransmit op ≡ true → length bytes ≡ dataLength op
+      → frameAt (laid m j op bytes) (nextSlot m j) ≡ record { op = op; bytes = encode op bytes; accepted = m .state .round }
+  unfolding frameAt
+  laid-frame t e =
+      let a = slot-own m (nextSlot m j) (slotOf op j (m .state .round)) bytes s (omega arith) l in
+      let b = bytes-own m (nextSlot m j) (slotOf op j (m .state .round)) bytes s (omega arith) l in
+      rw (a, slot-content op j (m .state .round) t, ← e, b, slot-signed op j (m .state .round) t .0)
+
+  pub put-view : isTransmit op ≡ true → length bytes ≡ dataLength op → Fits m j
+      → nodeView (putFrame m j op bytes) j ≡ accept (nodeView m j) (record { op = op; bytes = encode op bytes; accepted = m .state .round })
+  unfolding nodeView entryView putFrame fillSlot
+  put-view t e f =
+      entry-view (laid m j op bytes) j _ (omega (arith, s .nodes))
+      ∙ rw (add-one (entryAt m j .pending), frames-snoc (laid m j op bytes) (4 * j) (entryAt m j .pending),
+      frames-moved m (laid m j op bytes) (4 * j) (4 * j) (entryAt m j .pending) (λ i g. laid-moved (4 * j + i) (λ q. omega arith) (f .short i g)),
+      laid-frame t e)
+
+  pub put-others : (i : ℕ) → (i ≡ j → ⊥) → Same m (putFrame m j op bytes) i
+  unfolding putFrame fillSlot
+  put-others i n = same-trans first (entry-others (laid m j op bytes) j _ i n)
+    where
+      first : Same m (laid m j op bytes) i
+      first = record {
+        entry = refl;
+        slot = λ q g. slot-other m (nextSlot m j) (slotOf op j (m .state .round)) bytes s (omega arith) l (4 * i + q) (λ e. omega arith);
+        payload = λ q k g u.
+            bytes-other m (nextSlot m j) (slotOf op j (m .state .round)) bytes s (omega arith) l (4 * i + q) k (λ e. omega arith) u;
+        queue = λ k u. refl;
+      }
+
+  pub put-sized : Sized (putFrame m j op bytes)
+  unfolding putFrame fillSlot
+  put-sized = entry-sized (laid m j op bytes) j _ (slot-sized m (nextSlot m j) (slotOf op j (m .state .round)) bytes s (omega arith) l)
+
+-- ---- a frame is removed
+
+pub moved-trans : {m m′ m″ : Memory} {p p′ p″ : ℕ} → Moved m m′ p p′ → Moved m′ m″ p′ p″ → Moved m m″ p p″
+moved-trans v w = record { slot = w .slot ∙ v .slot; bytes = rw (v .slot) at (w .bytes) ∙ v .bytes }
+
+-- the frames of the n slots after p stand one lower; every other slot is as it was
+pub record Down (m m′ : Memory) (p n : ℕ) : Type 0 where
+  pub sized : Sized m′
+  pub state : m′ .state ≡ m .state
+  pub queues : m′ .queues ≡ m .queues
+  pub slot : (r : ℕ) → ((i : ℕ) → i < n → r ≡ p + i → ⊥) → slotAt m′ r ≡ slotAt m r
+  pub bytes : (r k : ℕ) → ((i : ℕ) → i < n → r ≡ p + i → ⊥) → k ≤ 2_048
+      → part (2_048 * r) k (m′ .payload) ≡ part (2_048 * r) k (m .payload)
+  pub down : (i : ℕ) → i < n → Moved m m′ (suc p + i) (p + i)
+
+-- the frame of slot p + 1 to slot p
+abbrev oneDown : Memory → ℕ → Memory
+oneDown m p = fillSlot m p (slotAt m (suc p)) (dataAtSlot m (suc p))
+
+module _ (m : Memory) (p : ℕ) (s : Sized m) (h : suc p < 32) (f : dataLength (operationAt m (suc p)) ≤ 2_048) where
+  down-length : length (dataAtSlot m (suc p)) ≡ dataLength (operationAt m (suc p))
+  down-length = length-part (2_048 * suc p) (dataLength (operationAt m (suc p))) (m .payload) (omega (arith, s .payload))
+
+  down-short : length (dataAtSlot m (suc p)) ≤ 2_048
+  down-short = rw down-length f
+
+  down-sized : Sized (oneDown m p)
+  down-sized = slot-sized m p (slotAt m (suc p)) (dataAtSlot m (suc p)) s (omega arith) down-short
+
+  down-slot : (r : ℕ) → (r ≡ p → ⊥) → slotAt (oneDown m p) r ≡ slotAt m r
+  down-slot r n = slot-other m p (slotAt m (suc p)) (dataAtSlot m (suc p)) s (omega arith) down-short r n
+
+  down-bytes : (r k : ℕ) → (r ≡ p → ⊥) → k ≤ 2_048
+      → part (2_048 * r) k (oneDown m p .payload) ≡ part (2_048 * r) k (m .payload)
+  down-bytes r k n l = bytes-other m p (slotAt m (suc p)) (dataAtSlot m (suc p)) s (omega arith) down-short r k n l
+
+  down-one : Moved m (oneDown m p) (suc p) p
+  down-one = record {
+    slot = slot-own m p (slotAt m (suc p)) (dataAtSlot m (suc p)) s (omega arith) down-short;
+    bytes =
+        ap (λ (k : ℕ). part (2_048 * p) k (oneDown m p .payload)) (sym down-length)
+        ∙ bytes-own m p (slotAt m (suc p)) (dataAtSlot m (suc p)) s (omega arith) down-short;
+  }
+
+  -- and those after it
+  down-more : (m′ : Memory) (n : ℕ) → ((i : ℕ) → i < suc n → dataLength (operationAt m (suc p + i)) ≤ 2_048)
+      → Down (oneDown m p) m′ (suc p) n → Down m m′ p (suc n)
+  unfolding fillSlot
+  down-more m′ n g d = record {
+    sized = d .sized;
+    state = d .state;
+    queues = d .queues;
+    slot = λ r o. d .slot r (later r o) ∙ down-slot r (now r o);
+    bytes = λ r k o l. d .bytes r k (later r o) l ∙ down-bytes r k (now r o) l;
+    down = each;
+  }
+    where
+      now : (r : ℕ) → ((i : ℕ) → i < suc n → r ≡ p + i → ⊥) → r ≡ p → ⊥
+      now r o e = o 0 (omega arith) (omega arith)
+
+      later : (r : ℕ) → ((i : ℕ) → i < suc n → r ≡ p + i → ⊥) → (i : ℕ) → i < n → r ≡ suc p + i → ⊥
+      later r o i l e = o (suc i) (omega arith) (omega arith)
+
+      first : Moved m m′ (suc p) p
+      first =
+          let o : (i : ℕ) → i < n → p ≡ suc p + i → ⊥ = λ i l e. omega arith in
+          moved-trans down-one (record { slot = d .slot p o; bytes = d .bytes p _ o (rw (down-one .slot) f) })
+
+      still : (r : ℕ) → (r ≡ p → ⊥) → dataLength (operationAt m r) ≤ 2_048 → Moved m (oneDown m p) r r
+      still r o l = record { slot = down-slot r o; bytes = down-bytes r _ o l }
+
+      each : (i : ℕ) → i < suc n → Moved m m′ (suc p + i) (p + i)
+      each zero l = rw (add-zero p, add-zero (suc p)) first
+      each (suc i) l =
+          let e : suc (suc p) + i ≡ suc p + suc i = omega arith in
+          let e′ : suc p + i ≡ p + suc i = omega arith in
+          rw (← e, ← e′) (moved-trans (still (suc (suc p) + i) (λ q. omega arith) (rw e (g (suc i) l))) (d .down i (omega arith)))
+
+pub moves-down : (n : ℕ) (m : Memory) (p : ℕ) → Sized m → p + n < 32
+    → ((i : ℕ) → i < n → dataLength (operationAt m (suc p + i)) ≤ 2_048) → Down m (moveDown m p n) p n
+unfolding moveDown
+moves-down zero m p s h f = record {
+  sized = s;
+  state = refl;
+  queues = refl;
+  slot = λ r g. refl;
+  bytes = λ r k g l. refl;
+  down = λ i l. absurd (omega arith);
+}
+moves-down (suc n) m p s h f =
+    let g : suc p < 32 = omega arith in
+    let c : dataLength (operationAt m (suc p)) ≤ 2_048 = rw add-zero at (f 0 (omega arith)) in
+    down-more m p s g c (moveDown (oneDown m p) (suc p) n) n f
+    (moves-down n (oneDown m p) (suc p) (down-sized m p s g c) (omega arith) (λ i l. short i l g c))
+  where
+    short : (i : ℕ) → i < n → (g : suc p < 32) (c : dataLength (operationAt m (suc p)) ≤ 2_048)
+        → dataLength (operationAt (oneDown m p) (suc (suc p) + i)) ≤ 2_048
+    short i l g c =
+        let e : suc (suc p) + i ≡ suc p + suc i = omega arith in
+        rw (down-slot m p s g c (suc (suc p) + i) (λ q. omega arith), e) (f (suc i) (omega arith))
+
+-- the frames of n slots, where frame q of n + 1 was removed
+without-frames : (m m′ : Memory) (q p n : ℕ) → q ≤ n → ((i : ℕ) → i < q → Moved m m′ (p + i) (p + i))
+    → ((i : ℕ) → q ≤ i → i < n → Moved m m′ (suc p + i) (p + i)) → framesFrom m′ p n ≡ without q (framesFrom m p (suc n))
+unfolding framesFrom without
+without-frames m m′ zero p n h f g = frames-moved m m′ (suc p) p n (λ i l. g i (omega arith) l)
+without-frames m m′ (suc q) p zero h f g = absurd (omega arith)
+without-frames m m′ (suc q) p (suc n) h f g =
+    let a : frameAt m′ p ≡ frameAt m p = rw add-zero at (frame-moved (f 0 (omega arith))) in
+    let b : framesFrom m′ (suc p) n ≡ without q (framesFrom m (suc p) (suc n)) =
+    without-frames m m′ q (suc p) n (omega arith) (λ i l. before i (f (suc i) (omega arith)))
+    (λ i k l. behind i (g (suc i) (omega arith) (omega arith))) in
+    rw (a, b)
+  where
+    before : (i : ℕ) → Moved m m′ (p + suc i) (p + suc i) → Moved m m′ (suc p + i) (suc p + i)
+    before i v = let e : p + suc i ≡ suc p + i = omega arith in rw e at v
+
+    behind : (i : ℕ) → Moved m m′ (suc p + suc i) (p + suc i) → Moved m m′ (suc (suc p) + i) (suc p + i)
+    behind i v =
+        let e : p + suc i ≡ suc p + i = omega arith in
+        let e′ : suc p + suc i ≡ suc (suc p) + i = omega arith in
+        rw (e, e′) at v
