@@ -227,3 +227,67 @@ without-frames m m′ (suc q) p (suc n) h f g =
         let e : p + suc i ≡ suc p + i = omega arith in
         let e′ : suc p + suc i ≡ suc (suc p) + i = omega arith in
         rw (e, e′) at v
+
+-- the later frames are moved
+abbrev lowered : Memory → ℕ → ℕ → Memory
+lowered m j q = moveDown m (4 * j + q) (entryAt m j .pending - 1 - q)
+
+module _ (m : Memory) (j q : ℕ) (s : Sized m) (h : j < 8) (f : Fits m j) (l : q < entryAt m j .pending) where
+  removed-down : Down m (lowered m j q) (4 * j + q) (entryAt m j .pending - 1 - q)
+  removed-down = moves-down (entryAt m j .pending - 1 - q) m (4 * j + q) s (omega (arith, f .few)) short
+    where
+      short : (i : ℕ) → i < entryAt m j .pending - 1 - q → dataLength (operationAt m (suc (4 * j + q) + i)) ≤ 2_048
+      short i g = let e : 4 * j + suc (q + i) ≡ suc (4 * j + q) + i = omega arith in rw (← e) (f .short (suc (q + i)) (omega arith))
+
+  removed-before : (i : ℕ) → i < q → Moved m (lowered m j q) (4 * j + i) (4 * j + i)
+  removed-before i g =
+      let o : (k : ℕ) → k < entryAt m j .pending - 1 - q → 4 * j + i ≡ 4 * j + q + k → ⊥ = λ k u e. omega arith in
+      record { slot = removed-down .slot (4 * j + i) o; bytes = removed-down .bytes (4 * j + i) _ o (f .short i (omega arith)) }
+
+  removed-behind : (i : ℕ) → q ≤ i → i < entryAt m j .pending - 1 → Moved m (lowered m j q) (suc (4 * j) + i) (4 * j + i)
+  removed-behind i k g =
+      let e : 4 * j + q + (i - q) ≡ 4 * j + i = omega arith in
+      let e′ : suc (4 * j + q) + (i - q) ≡ suc (4 * j) + i = omega arith in
+      rw (← e, ← e′) (removed-down .down (i - q) (omega arith))
+
+  pub remove-view : nodeView (removeFrame m j q) j ≡ withPending (nodeView m j) (without q (nodeView m j .pending))
+  unfolding nodeView entryView removeFrame
+  remove-view =
+      let e : suc (entryAt m j .pending - 1) ≡ entryAt m j .pending = omega arith in
+      let w : framesFrom (lowered m j q) (4 * j) (entryAt m j .pending - 1) ≡ without q (framesFrom m (4 * j) (entryAt m j .pending)) =
+      without-frames m (lowered m j q) q (4 * j) (entryAt m j .pending - 1) (omega arith) removed-before removed-behind
+      ∙ ap (λ (n : ℕ). without q (framesFrom m (4 * j) n)) e in
+      let n : length (lowered m j q .state .nodes) ≡ 8 = removed-down .sized .nodes in
+      entry-view (lowered m j q) j _ (omega arith) ∙ rw (w, removed-down .queues)
+
+  pub remove-others : (i : ℕ) → (i ≡ j → ⊥) → Same m (removeFrame m j q) i
+  unfolding removeFrame
+  remove-others i n = same-trans first (entry-others (lowered m j q) j _ i n)
+    where
+      away : (r k : ℕ) → r < 4 → k < entryAt m j .pending - 1 - q → 4 * i + r ≡ 4 * j + q + k → ⊥
+      away r k a b e = omega (arith, f .few)
+
+      first : Same m (lowered m j q) i
+      first = record {
+        entry = rw (removed-down .state);
+        slot = λ r g. removed-down .slot (4 * i + r) (λ k. away r k g);
+        payload = λ r k g u. removed-down .bytes (4 * i + r) k (λ k. away r k g) u;
+        queue = λ k u. rw (removed-down .queues);
+      }
+
+  pub remove-sized : Sized (removeFrame m j q)
+  unfolding removeFrame
+  remove-sized = entry-sized (lowered m j q) j _ (removed-down .sized)
+
+  -- each slot that is still in use has what it had, or what the next one had
+  pub remove-slot : (i : ℕ) → i < entryAt m j .pending - 1
+      → (slotAt (removeFrame m j q) (4 * j + i) ≡ slotAt m (4 * j + i)) ⊎ (slotAt (removeFrame m j q) (4 * j + i) ≡ slotAt m (4 * j + suc i))
+  unfolding removeFrame setEntry
+  remove-slot i g = go (ltb i q) refl
+    where
+      go : (t : Bool) → ltb i q ≡ t
+          → (slotAt (lowered m j q) (4 * j + i) ≡ slotAt m (4 * j + i)) ⊎ (slotAt (lowered m j q) (4 * j + i) ≡ slotAt m (4 * j + suc i))
+      go true e = inl (removed-before i (ltb-true i q e) .slot)
+      go false e =
+          let a : suc (4 * j) + i ≡ 4 * j + suc i = omega arith in
+          inr (rw a at (removed-behind i (ltb-false i q e) g .slot))
