@@ -2,3 +2,4 @@ pub mod Offsets
 pub mod Writes
 pub mod Views
 pub mod Frames
+pub mod Buses
