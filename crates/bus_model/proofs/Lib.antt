@@ -3,3 +3,4 @@ pub mod Writes
 pub mod Views
 pub mod Frames
 pub mod Buses
+pub mod Lawful
