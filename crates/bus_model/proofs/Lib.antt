@@ -4,3 +4,4 @@ pub mod Views
 pub mod Frames
 pub mod Buses
 pub mod Lawful
+pub mod Validity
