@@ -5,3 +5,4 @@ pub mod Frames
 pub mod Buses
 pub mod Lawful
 pub mod Validity
+pub mod Touched

@@ -1,0 +1,86 @@
+-- A step that touches one node, and one that goes over all of them: what it does to the view, and that it keeps what is good.
+-- Assumes nothing.
+use mathlib.Core.Path.{_≡_, refl, sym, ap, _∙_, subst}
+use Prim.Native.Nat.{ℕ, zero, suc, _+_, _*_, _≤_, _<_}
+use native.Mathlib.Omega.{arith}
+use mathlib.Core.Bool.{Bool, true, false}
+use mathlib.Core.List.{List, [], _∷_}
+use lib.Dec.{eqb, ltb}
+use lib.ListN.{length}
+use borrow.Author.Tests.{ltb-true, ltb-false}
+use Rattle.plain_bus.specs.Held.{Node, Bus, nodeAt, withNode, withNodes, eachNode}
+use Rattle.plain_bus.specs.Valid.{ValidNode, Valid}
+use Rattle.plain_bus.proofs.Kept.{by-number}
+use Rattle.bus_state.specs.Memory.{Memory, slotAt, nodeView, view}
+use Rattle.bus_model.specs.Primitives.{entryAt, inTurn}
+use Rattle.bus_model.specs.Refines.{Sized, TypedSlot, Typed}
+use Rattle.bus_model.proofs.Writes.{Same, same-refl, same-trans}
+use Rattle.bus_model.proofs.Views.{Fits, same-fits, same-view}
+use Rattle.bus_model.proofs.Buses.{view-length, view-at, view-round, view-set, view-each}
+use Rattle.bus_model.proofs.Validity.{Owned, Good, good-node, good-fits}
+
+-- every slot's fields stay within their types
+abbrev pub FieldsKept : Memory → Memory → Type 0
+FieldsKept m m′ = ((p : ℕ) → TypedSlot (slotAt m p)) → (p : ℕ) → TypedSlot (slotAt m′ p)
+
+-- what is asked of a node beside its view
+pub record Tidy (m : Memory) (j : ℕ) : Type 0 where
+  pub fill : entryAt m j .fill ≤ 4_096
+  pub owned : Owned m j
+
+pub same-tidy : {m m′ : Memory} {i : ℕ} → Same m m′ i → Fits m i → Tidy m i → Tidy m′ i
+same-tidy {m} {m′} {i} s f t = record {
+  fill = rw (s .entry) (t .fill);
+  owned = λ q h. let h′ : q < entryAt m i .pending = rw (s .entry) at h in rw (s .slot q (omega (arith, f .few))) (t .owned q h′);
+}
+
+pub good-tidy : {m : Memory} → Good m → (j : ℕ) → j < m .state .count → Tidy m j
+good-tidy g j h = record { fill = g .fill j h; owned = g .owned j h }
+
+-- ---- one node
+
+-- from m to m′ only node k is touched, and it is d then
+pub record Touched (m m′ : Memory) (k : ℕ) (d : Node) : Type 0 where
+  pub count : m′ .state .count ≡ m .state .count
+  pub round : m′ .state .round ≡ m .state .round
+  pub sized : Sized m′
+  pub others : (i : ℕ) → (i ≡ k → ⊥) → Same m m′ i
+  pub own : nodeView m′ k ≡ d
+  pub tidy : Tidy m′ k
+  pub fields : FieldsKept m m′
+
+-- memory is good where each node is as it should be
+pub good-from : (m m′ : Memory) (b : Bus) → Good m → view m′ ≡ b → Valid b → m′ .state .count ≡ m .state .count → Sized m′ → FieldsKept m m′
+    → ((j : ℕ) → j < m .state .count → Tidy m′ j) → ((j : ℕ) → m .state .count ≤ j → Same m m′ j) → Good m′
+unfolding nodeView
+good-from m m′ b g e v c s f t o =
+    let w : Valid (view m′) = rw e v in
+    record {
+      typed = record {
+        sized = s;
+        round = rw (view-round m′) at (w .round);
+        rates = λ j h. rates w j h (ltb j (m .state .count)) refl;
+        fields = f (g .typed .fields);
+      };
+      valid = w;
+      fill = λ j h. t j (rw c at h) .fill;
+      owned = λ j h. t j (rw c at h) .owned;
+    }
+  where
+    rates : Valid (view m′) → (j : ℕ) → j < 8 → (t : Bool) → ltb j (m .state .count) ≡ t → length (entryAt m′ j .rates) ≡ 3
+    rates w j h true q =
+        let l : j < m′ .state .count = rw c (ltb-true j (m .state .count) q) in
+        rw (view-at m′ j l) at (w .each j (rw (view-length m′) l)) .three
+    rates w j h false q = rw (o j (ltb-false j (m .state .count) q) .entry) (g .typed .rates j h)
+
+module _ (m : Memory) (g : Good m) (k : ℕ) (h : k < m .state .count) (m′ : Memory) (d : Node) (t : Touched m m′ k d) where
+  pub touched-view : view m′ ≡ withNode (view m) k d
+  touched-view =
+      view-set m m′ k d h (t .count) (t .round) (t .own) (λ i l n. same-view (t .others i n) (good-fits m g i l))
+
+  pub touched-good : Valid (withNode (view m) k d) → Good m′
+  touched-good v =
+      good-from m m′ (withNode (view m) k d) g touched-view v (t .count) (t .sized) (t .fields)
+      (by-number (λ j. j < m .state .count → Tidy m′ j) k (λ l. t .tidy)
+      (λ j n l. same-tidy (t .others j n) (good-fits m g j l) (good-tidy g j l)))
+      (λ j l. t .others j (λ e. omega arith))
