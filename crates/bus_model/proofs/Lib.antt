@@ -6,3 +6,4 @@ pub mod Buses
 pub mod Lawful
 pub mod Validity
 pub mod Touched
+pub mod Collect

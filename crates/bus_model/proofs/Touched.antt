@@ -6,18 +6,21 @@ use native.Mathlib.Omega.{arith}
 use mathlib.Core.Bool.{Bool, true, false}
 use mathlib.Core.List.{List, [], _∷_}
 use lib.Dec.{eqb, ltb}
-use lib.ListN.{length}
+use lib.ListN.{length, set, length-set}
+use lib.Seq.{getD-set-same, getD-set-other}
 use borrow.Author.Tests.{ltb-true, ltb-false}
-use Rattle.plain_bus.specs.Held.{Node, Bus, nodeAt, withNode, withNodes, eachNode}
+use Rattle.plain_bus.specs.Held.{Node, Bus, lastRound, newNode, nodeAt, withNode, withNodes, withRound, eachNode}
 use Rattle.plain_bus.specs.Valid.{ValidNode, Valid}
+use Rattle.plain_bus.proofs.Nodes.{length-each, each-at}
 use Rattle.plain_bus.proofs.Kept.{by-number}
 use Rattle.bus_state.specs.Memory.{Memory, slotAt, nodeView, view}
-use Rattle.bus_model.specs.Primitives.{entryAt, inTurn}
+use Rattle.bus_state.specs.declared.NodeState.{NodeState}
+use Rattle.bus_model.specs.Primitives.{entryAt, setEntry, inTurn}
 use Rattle.bus_model.specs.Refines.{Sized, TypedSlot, Typed}
-use Rattle.bus_model.proofs.Writes.{Same, same-refl, same-trans}
-use Rattle.bus_model.proofs.Views.{Fits, same-fits, same-view}
+use Rattle.bus_model.proofs.Writes.{Same, same-refl, same-trans, entry-own, entry-others, entry-sized}
+use Rattle.bus_model.proofs.Views.{Fits, same-fits, same-view, entryView, entry-view}
 use Rattle.bus_model.proofs.Buses.{view-length, view-at, view-round, view-set, view-each}
-use Rattle.bus_model.proofs.Validity.{Owned, Good, good-node, good-fits}
+use Rattle.bus_model.proofs.Validity.{Owned, Good, good-node, good-number, good-fits}
 
 -- every slot's fields stay within their types
 abbrev pub FieldsKept : Memory → Memory → Type 0
@@ -84,3 +87,47 @@ module _ (m : Memory) (g : Good m) (k : ℕ) (h : k < m .state .count) (m′ : M
       (by-number (λ j. j < m .state .count → Tidy m′ j) k (λ l. t .tidy)
       (λ j n l. same-tidy (t .others j n) (good-fits m g j l) (good-tidy g j l)))
       (λ j l. t .others j (λ e. omega arith))
+
+-- ---- the plain bus stays valid
+
+pub valid-set : (b : Bus) (k : ℕ) (d : Node) → Valid b → k < length (b .nodes) → ValidNode (b .round) d → Valid (withNode b k d)
+valid-set b k d v h n = record {
+  least = rw (length-set (b .nodes) k d) (v .least);
+  most = rw (length-set (b .nodes) k d) (v .most);
+  round = v .round;
+  each =
+      by-number (λ j. j < length (set (b .nodes) k d) → ValidNode (b .round) (nodeAt (withNode b k d) j)) k
+      (λ l. rw (getD-set-same (b .nodes) k d newNode h) n)
+      (λ j o l. rw (getD-set-other (b .nodes) k j d newNode o) (v .each j (rw (length-set (b .nodes) k d) at l)));
+}
+
+pub valid-each : (b : Bus) (f : ℕ → Node → Node) (later : ℕ) → Valid b → later ≤ lastRound
+    → ((j : ℕ) → j < length (b .nodes) → ValidNode later (f j (nodeAt b j)))
+    → Valid (withRound (withNodes b (eachNode f 0 (b .nodes))) later)
+valid-each b f later v r n = record {
+  least = rw (length-each f 0 (b .nodes)) (v .least);
+  most = rw (length-each f 0 (b .nodes)) (v .most);
+  round = r;
+  each = λ j l. let l′ : j < length (b .nodes) = rw (length-each f 0 (b .nodes)) at l in rw (each-at f (b .nodes) j l′) (n j l′);
+}
+
+-- ---- an entry is set
+
+module _ (m : Memory) (g : Good m) (k : ℕ) (h : k < m .state .count) (d : NodeState) (room : d .fill ≤ 4_096)
+    (few : d .pending ≤ entryAt m k .pending) where
+  pub entry-touched : Touched m (setEntry m k d) k (entryView m k d)
+  unfolding setEntry
+  entry-touched =
+      let l : k < length (m .state .nodes) = omega (arith, good-number m g k h, g .typed .sized .nodes) in
+      record {
+        count = refl;
+        round = refl;
+        sized = entry-sized m k d (g .typed .sized);
+        others = λ i n. entry-others m k d i n;
+        own = entry-view m k d l;
+        tidy = record {
+          fill = rw (entry-own m k d l) room;
+          owned = λ q u. let u′ : q < d .pending = rw (entry-own m k d l) at u in g .owned k h q (omega arith);
+        };
+        fields = λ f. f;
+      }
