@@ -1,54 +1,29 @@
--- Start and collect are those of the plain bus on the view.
+-- Collect is that of the plain bus on the view.
 -- Assumes nothing.
-use mathlib.Core.Path.{_≡_, refl, sym, ap, _∙_, subst}
-use Prim.Native.Nat.{ℕ, zero, suc, _+_, _*_, _≤_, _<_}
+use mathlib.Core.Path.{_≡_, refl}
+use Prim.Native.Nat.{ℕ, _*_, _<_}
 use native.Mathlib.Omega.{arith}
-use mathlib.Core.Bool.{Bool, true, false, cond, not, _&&_}
-use mathlib.Core.List.{List, []}
-use lib.Dec.{leb, ltb, eqb}
-use lib.ListN.{length, getD, replicate, length-replicate, getD-replicate}
-use borrow.Author.Tests.{ltb-true, leb-true, eqb-true, eq-eqb, le-leb}
-use Rattle.operation.proofs.Tests.{both}
-use Rattle.slots.specs.Slots.{freeSlot}
-use Rattle.slots.specs.declared.Slot.{Slot}
-use Rattle.plain_bus.specs.Held.{Node, Bus, newNode, newBus, attached, nodeAt, withNode, withQueue}
-use Rattle.plain_bus.specs.Refusal.{Refusal, badNodeCount, notAttached, roomTooSmall}
-use Rattle.plain_bus.specs.Calls.{Answer, refused, accepted, collected, Outcome, gives, refuses, start, collect}
+use mathlib.Core.Bool.{Bool, true, false, cond, not}
+use mathlib.Core.List.{[]}
+use lib.Dec.{ltb}
+use lib.ListN.{length}
+use borrow.Author.Tests.{ltb-true}
+use Rattle.plain_bus.specs.Held.{nodeAt, withNode, withQueue}
+use Rattle.plain_bus.specs.Refusal.{notAttached, roomTooSmall}
+use Rattle.plain_bus.specs.Calls.{refused, collected, gives, refuses, collect}
 use Rattle.plain_bus.proofs.Changes.{collected}
 use Rattle.plain_bus.proofs.Validity.{change-valid}
-use Rattle.plain_bus.proofs.Kept.{start-valid}
-use Rattle.bus_state.specs.Memory.{Memory, noNode, slotAt, part, framesFrom, nodeView, nodesFrom, view}
+use Rattle.bus_state.specs.Memory.{Memory, part, nodeView, view}
 use Rattle.bus_state.specs.Valid.{validState}
-use Rattle.bus_model.specs.Primitives.{entryAt, emptyQueue, newEntry, newState, startMemory}
-use Rattle.bus_model.specs.Calls.{Result, answers, replies, refusing, lentWell, checked, noStart, startIn, queueAt, collection, collectIn}
-use Rattle.bus_model.specs.Refines.{Sized, TypedSlot, Typed, Refines}
+use Rattle.bus_model.specs.Primitives.{entryAt, emptyQueue}
+use Rattle.bus_model.specs.Calls.{replies, refusing, queueAt, collection, collectIn}
+use Rattle.bus_model.specs.Refines.{Typed, Refines}
 use Rattle.bus_model.proofs.Offsets.{length-part}
 use Rattle.bus_model.proofs.Views.{entryView}
-use Rattle.bus_model.proofs.Buses.{view-length, view-at, view-round, view-is}
-use Rattle.bus_model.proofs.Validity.{Good, valid-good, good-valid, good-node, good-number}
+use Rattle.bus_model.proofs.Buses.{view-length, view-at, view-round}
+use Rattle.bus_model.proofs.Validity.{Good, valid-good, good-node, good-number}
 use Rattle.bus_model.proofs.Touched.{Touched, touched-view, touched-good, valid-set, entry-touched}
-
--- ---- refusals 1 and 3
-
-lent-well : (m : Memory) → Sized m → lentWell m ≡ true
-unfolding lentWell
-lent-well m s =
-    rw (eq-eqb (length (m .slots)) 32 (s .slots), eq-eqb (length (m .payload)) 65_536 (s .payload),
-    eq-eqb (length (m .queues)) 32_768 (s .queues))
-
--- a valid memory passes both
-pub checked-passes : (m : Memory) (r : Result) → Good m → checked m r ≡ r
-unfolding checked
-checked-passes m r g = rw (lent-well m (g .typed .sized), good-valid m g)
-
--- nothing is changed
-pub unchanged : (m : Memory) → Good m → (a : Answer) → Refines (replies a m) (gives a (view m))
-unchanged m g a = record { bus = refl; answer = refl; valid = good-valid m g; typed = g .typed }
-
-pub changed : (m m′ : Memory) (b : Bus) → Good m′ → view m′ ≡ b → (a : Answer) → Refines (replies a m′) (gives a b)
-changed m m′ b g e a = record { bus = e; answer = refl; valid = good-valid m′ g; typed = g .typed }
-
--- ---- collect
+use Rattle.bus_model.proofs.Checked.{checked-passes, unchanged, changed}
 
 module _ (m : Memory) (g : Good m) (k room : ℕ) where
   queue-view : k < m .state .count → nodeView m k .queue ≡ queueAt m k
@@ -71,7 +46,7 @@ module _ (m : Memory) (g : Good m) (k room : ℕ) where
       let v = valid-set (view m) k (withQueue (nodeView m k) []) (g .valid) (rw (view-length m) h)
       (rw (view-round m) (change-valid collected (good-node m g k h))) in
       rw (queue-view h)
-      (changed m (emptyQueue m k) (withNode (view m) k (withQueue (nodeView m k) []))
+      (changed (emptyQueue m k) (withNode (view m) k (withQueue (nodeView m k) []))
       (touched-good m g k h (emptyQueue m k) _ (emptied h) v) (touched-view m g k h (emptyQueue m k) _ (emptied h)) (collected (queueAt m k)))
 
   collection-refines : Refines (collection m k room) (collect (view m) k room)

@@ -6,4 +6,6 @@ pub mod Buses
 pub mod Lawful
 pub mod Validity
 pub mod Touched
+pub mod Checked
+pub mod Start
 pub mod Collect
