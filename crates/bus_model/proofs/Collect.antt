@@ -1,7 +1,7 @@
 -- Collect is that of the plain bus on the view.
 -- Assumes nothing.
 use mathlib.Core.Path.{_≡_, refl}
-use Prim.Native.Nat.{ℕ, _*_, _<_}
+use Prim.Native.Nat.{ℕ, _<_}
 use native.Mathlib.Omega.{arith}
 use mathlib.Core.Bool.{Bool, true, false, cond, not}
 use mathlib.Core.List.{[]}
@@ -18,10 +18,9 @@ use Rattle.bus_state.specs.Valid.{validState}
 use Rattle.bus_model.specs.Primitives.{entryAt, emptyQueue}
 use Rattle.bus_model.specs.Calls.{replies, refusing, queueAt, collection, collectIn}
 use Rattle.bus_model.specs.Refines.{Typed, Refines}
-use Rattle.bus_model.proofs.Offsets.{length-part}
 use Rattle.bus_model.proofs.Views.{entryView}
 use Rattle.bus_model.proofs.Buses.{view-length, view-at, view-round}
-use Rattle.bus_model.proofs.Validity.{Good, valid-good, good-node, good-number}
+use Rattle.bus_model.proofs.Validity.{Good, valid-good, good-node, good-number, queue-length}
 use Rattle.bus_model.proofs.Touched.{Touched, touched-view, touched-good, valid-set, entry-touched}
 use Rattle.bus_model.proofs.Checked.{checked-passes, unchanged, changed}
 
@@ -30,14 +29,9 @@ module _ (m : Memory) (g : Good m) (k room : ℕ) where
   unfolding nodeView queueAt
   queue-view h = refl
 
-  queue-length : k < m .state .count → length (nodeView m k .queue) ≡ entryAt m k .fill
-  unfolding nodeView
-  queue-length h =
-      length-part (4_096 * k) (entryAt m k .fill) (m .queues) (omega (arith, g .fill k h, good-number m g k h, g .typed .sized .queues))
-
   emptied : k < m .state .count → Touched m (emptyQueue m k) k (withQueue (nodeView m k) [])
   unfolding emptyQueue entryView nodeView part
-  emptied h = entry-touched m g k h _ (omega arith) (omega arith)
+  emptied h = entry-touched m (g .typed .sized) k (good-number m g k h) (g .owned k h) _ (omega arith) (omega arith)
 
   handed : k < m .state .count
       → Refines (replies (collected (queueAt m k)) (emptyQueue m k))
@@ -69,7 +63,7 @@ module _ (m : Memory) (g : Good m) (k room : ℕ) where
       go false e = unchanged m g (refused notAttached)
       go true e =
           let h = ltb-true k (m .state .count) e in
-          rw (view-at m k h, queue-length h) (fits h (ltb room (entryAt m k .fill)))
+          rw (view-at m k h, queue-length m g k h) (fits h (ltb room (entryAt m k .fill)))
 
 -- collect, for every valid memory
 pub collect-refines : (m : Memory) (k room : ℕ) → Typed m → validState (m .state) (m .slots) ≡ true

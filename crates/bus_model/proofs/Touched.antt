@@ -9,18 +9,18 @@ use lib.Dec.{eqb, ltb}
 use lib.ListN.{length, set, length-set}
 use lib.Seq.{getD-set-same, getD-set-other}
 use borrow.Author.Tests.{ltb-true, ltb-false}
-use Rattle.plain_bus.specs.Held.{Node, Bus, lastRound, newNode, nodeAt, withNode, withNodes, withRound, eachNode}
+use Rattle.plain_bus.specs.Held.{Node, Bus, lastRound, newNode, nodeAt, withNode, withNodes, withRound, eachNode, enqueue}
 use Rattle.plain_bus.specs.Valid.{ValidNode, Valid}
 use Rattle.plain_bus.proofs.Nodes.{length-each, each-at}
 use Rattle.plain_bus.proofs.Kept.{by-number}
 use Rattle.bus_state.specs.Memory.{Memory, slotAt, nodeView, view}
 use Rattle.bus_state.specs.declared.NodeState.{NodeState}
-use Rattle.bus_model.specs.Primitives.{entryAt, setEntry, inTurn}
+use Rattle.bus_model.specs.Primitives.{entryAt, entryFill, setEntry, layQueue, append, inTurn}
 use Rattle.bus_model.specs.Refines.{Sized, TypedSlot, Typed}
 use Rattle.bus_model.proofs.Writes.{Same, same-refl, same-trans, entry-own, entry-others, entry-sized}
-use Rattle.bus_model.proofs.Views.{Fits, same-fits, same-view, entryView, entry-view}
+use Rattle.bus_model.proofs.Views.{Fits, same-fits, same-view, entryView, entry-view, append-view, append-others, append-sized}
 use Rattle.bus_model.proofs.Buses.{view-length, view-at, view-round, view-set, view-each}
-use Rattle.bus_model.proofs.Validity.{Owned, Good, good-node, good-number, good-fits}
+use Rattle.bus_model.proofs.Validity.{Owned, Good, good-node, good-number, good-fits, fits-from}
 
 -- every slot's fields stay within their types
 abbrev pub FieldsKept : Memory → Memory → Type 0
@@ -111,23 +111,105 @@ valid-each b f later v r n = record {
   each = λ j l. let l′ : j < length (b .nodes) = rw (length-each f 0 (b .nodes)) at l in rw (each-at f (b .nodes) j l′) (n j l′);
 }
 
--- ---- an entry is set
+-- ---- each primitive touches its node only
 
-module _ (m : Memory) (g : Good m) (k : ℕ) (h : k < m .state .count) (d : NodeState) (room : d .fill ≤ 4_096)
-    (few : d .pending ≤ entryAt m k .pending) where
-  pub entry-touched : Touched m (setEntry m k d) k (entryView m k d)
+module _ (m : Memory) (s : Sized m) (k : ℕ) (h : k < 8) (o : Owned m k) where
+  pub entry-touched : (d : NodeState) → d .fill ≤ 4_096 → d .pending ≤ entryAt m k .pending → Touched m (setEntry m k d) k (entryView m k d)
   unfolding setEntry
-  entry-touched =
-      let l : k < length (m .state .nodes) = omega (arith, good-number m g k h, g .typed .sized .nodes) in
+  entry-touched d room few =
+      let l : k < length (m .state .nodes) = omega (arith, s .nodes) in
       record {
         count = refl;
         round = refl;
-        sized = entry-sized m k d (g .typed .sized);
+        sized = entry-sized m k d s;
         others = λ i n. entry-others m k d i n;
         own = entry-view m k d l;
         tidy = record {
           fill = rw (entry-own m k d l) room;
-          owned = λ q u. let u′ : q < d .pending = rw (entry-own m k d l) at u in g .owned k h q (omega arith);
+          owned = λ q u. let u′ : q < d .pending = rw (entry-own m k d l) at u in o q (omega arith);
         };
         fields = λ f. f;
       }
+
+  pub append-touched : (bytes : List ℕ) → entryAt m k .fill + length bytes ≤ 4_096 → Touched m (append m k bytes) k (enqueue (nodeView m k) bytes)
+  unfolding append setEntry
+  append-touched bytes room =
+      let l : k < length (m .state .nodes) = omega (arith, s .nodes) in
+      let e = entry-own (layQueue m k bytes) k (entryFill (entryAt m k) (entryAt m k .fill + length bytes)) l in
+      record {
+        count = refl;
+        round = refl;
+        sized = append-sized m k bytes s h room;
+        others = λ i n. append-others m k bytes s h room i n;
+        own = append-view m k bytes s h room;
+        tidy = record { fill = rw e room; owned = λ q u. let u′ : q < entryAt m k .pending = rw e at u in o q u′ };
+        fields = λ f. f;
+      }
+
+pub touched-trans : {m m′ m″ : Memory} {k : ℕ} {d d′ : Node} → Touched m m′ k d → Touched m′ m″ k d′ → Touched m m″ k d′
+touched-trans t u = record {
+  count = u .count ∙ t .count;
+  round = u .round ∙ t .round;
+  sized = u .sized;
+  others = λ i n. same-trans (t .others i n) (u .others i n);
+  own = u .own;
+  tidy = u .tidy;
+  fields = λ f. u .fields (t .fields f);
+}
+
+pub touched-as : {m m′ : Memory} {k : ℕ} {d d′ : Node} → Touched m m′ k d → d ≡ d′ → Touched m m′ k d′
+touched-as {m} {m′} {k} t e = subst (Touched m m′ k) e t
+
+-- ---- a change at each node in turn
+
+-- the nodes below j are changed, those from j on are as they were
+pub record Going (m x : Memory) (j : ℕ) (f : ℕ → Node → Node) : Type 0 where
+  pub count : x .state .count ≡ m .state .count
+  pub round : x .state .round ≡ m .state .round
+  pub sized : Sized x
+  pub fields : FieldsKept m x
+  pub past : (i : ℕ) → i < j → (nodeView x i ≡ f i (nodeView m i)) × Tidy x i
+  pub left : (i : ℕ) → j ≤ i → Same m x i
+
+module _ (m : Memory) (f : ℕ → Node → Node) (later : ℕ)
+    (valid : (i : ℕ) → i < m .state .count → ValidNode later (f i (nodeView m i))) (change : Memory → ℕ → Memory)
+    (step : (x : Memory) (j : ℕ) → j < m .state .count → Sized x → Same m x j → x .state .round ≡ m .state .round
+    → Touched x (change x j) j (f j (nodeView m j))) where
+  going-on : (x : Memory) (j : ℕ) → j < m .state .count → Going m x j f → Going m (change x j) (suc j) f
+  going-on x j h g =
+      let t = step x j h (g .sized) (g .left j (omega arith)) (g .round) in
+      record {
+        count = t .count ∙ g .count;
+        round = t .round ∙ g .round;
+        sized = t .sized;
+        fields = λ u. t .fields (g .fields u);
+        past = by-number (λ i. i < suc j → (nodeView (change x j) i ≡ f i (nodeView m i)) × Tidy (change x j) i) j
+            (λ l. (t .own, t .tidy))
+            (λ i n l.
+              let l′ : i < j = omega arith in
+              let a = g .past i l′ in
+              let w = fits-from x i later (f i (nodeView m i)) (a .0) (valid i (omega arith)) (a .1 .fill) in
+              (same-view (t .others i n) w ∙ a .0, same-tidy (t .others i n) w (a .1)));
+        left = λ i l. same-trans (g .left i (omega arith)) (t .others i (λ e. omega arith));
+      }
+
+  going-all : (n j : ℕ) (x : Memory) → j + n ≡ m .state .count → Going m x j f → Going m (inTurn change j n x) (m .state .count) f
+  unfolding inTurn
+  going-all zero j x e g = let q : j ≡ m .state .count = omega arith in subst (λ (i : ℕ). Going m x i f) q g
+  going-all (suc n) j x e g = going-all n (suc j) (change x j) (omega arith) (going-on x j (omega arith) g)
+
+  pub in-turn : Sized m → Going m (inTurn change 0 (m .state .count) m) (m .state .count) f
+  in-turn s =
+      going-all (m .state .count) 0 m (omega arith) (record {
+        count = refl;
+        round = refl;
+        sized = s;
+        fields = λ u. u;
+        past = λ i l. absurd (omega arith);
+        left = λ i l. same-refl m i;
+      })
+
+-- all nodes are changed
+module _ (m x : Memory) (f : ℕ → Node → Node) (g : Good m) (t : Going m x (m .state .count) f) where
+  pub going-view : view x ≡ withNodes (view m) (eachNode f 0 (view m .nodes))
+  going-view = view-each m x f (t .count) (t .round) (λ i h. t .past i h .0)

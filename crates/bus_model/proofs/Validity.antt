@@ -271,6 +271,16 @@ good-valid m g =
 
 -- ---- one node, by number
 
+pub fits-from : (m : Memory) (j now : ℕ) (d : Node) → nodeView m j ≡ d → ValidNode now d → entryAt m j .fill ≤ 4_096 → Fits m j
+unfolding nodeView
+fits-from m j now d e v f =
+    let w : ValidNode now (nodeView m j) = rw e v in
+    record {
+      few = rw (length-frames m (4 * j) (entryAt m j .pending)) at (w .few);
+      fill = f;
+      short = λ q l. frames-short m (4 * j) (entryAt m j .pending) 0 now (w .frames) q l;
+    }
+
 module _ (m : Memory) (g : Good m) (j : ℕ) (h : j < m .state .count) where
   pub good-node : ValidNode (m .state .round) (nodeView m j)
   good-node = rw (view-at m j h, view-round m) at (g .valid .each j (rw (view-length m) h))
@@ -279,9 +289,9 @@ module _ (m : Memory) (g : Good m) (j : ℕ) (h : j < m .state .count) where
   good-number = let most : m .state .count ≤ 8 = rw (view-length m) at (g .valid .most) in omega arith
 
   pub good-fits : Fits m j
+  good-fits = fits-from m j (m .state .round) (nodeView m j) refl good-node (g .fill j h)
+
+  pub queue-length : length (nodeView m j .queue) ≡ entryAt m j .fill
   unfolding nodeView
-  good-fits = record {
-    few = rw (length-frames m (4 * j) (entryAt m j .pending)) at (good-node .few);
-    fill = g .fill j h;
-    short = λ q l. frames-short m (4 * j) (entryAt m j .pending) 0 (m .state .round) (good-node .frames) q l;
-  }
+  queue-length =
+      length-part (4_096 * j) (entryAt m j .fill) (m .queues) (omega (arith, g .fill j h, good-number, g .typed .sized .queues))
