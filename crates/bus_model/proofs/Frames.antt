@@ -22,7 +22,7 @@ use Rattle.plain_bus.specs.Held.{Frame, Node, withPending}
 use Rattle.plain_bus.specs.Submit.{accept}
 use Rattle.plain_bus.specs.Round.{without}
 use Rattle.bus_state.specs.Memory.{Memory, operationAt, dataAtSlot, slotAt, part, frameAt, framesFrom, nodeView}
-use Rattle.bus_model.specs.Primitives.{entryAt, setEntry, fillSlot, nextSlot, putFrame, moveDown, removeFrame}
+use Rattle.bus_model.specs.Primitives.{entryAt, entryPending, setEntry, fillSlot, nextSlot, putFrame, moveDown, removeFrame}
 use Rattle.bus_model.specs.Refines.{Sized}
 use Rattle.bus_model.proofs.Offsets.{length-part}
 use Rattle.bus_model.proofs.Writes.{Same, same-trans, entry-own, entry-others, entry-sized, slot-own, slot-other, bytes-own, bytes-other, slot-sized}
@@ -104,6 +104,18 @@ module _ (m : Memory) (j : ℕ) (op : Operation) (bytes : List ℕ) (s : Sized m
   pub put-sized : Sized (putFrame m j op bytes)
   unfolding putFrame fillSlot
   put-sized = entry-sized (laid m j op bytes) j _ (slot-sized m (nextSlot m j) (slotOf op j (m .state .round)) bytes s (omega arith) l)
+
+  pub put-entry : entryAt (putFrame m j op bytes) j ≡ entryPending (entryAt m j) (entryAt m j .pending + 1)
+  unfolding putFrame fillSlot
+  put-entry = entry-own (laid m j op bytes) j (entryPending (entryAt m j) (entryAt m j .pending + 1)) (omega (arith, s .nodes))
+
+  pub put-slot : slotAt (putFrame m j op bytes) (nextSlot m j) ≡ slotOf op j (m .state .round)
+  unfolding putFrame setEntry
+  put-slot = slot-own m (nextSlot m j) (slotOf op j (m .state .round)) bytes s (omega arith) l
+
+  pub put-slots : (r : ℕ) → (r ≡ nextSlot m j → ⊥) → slotAt (putFrame m j op bytes) r ≡ slotAt m r
+  unfolding putFrame setEntry
+  put-slots r n = slot-other m (nextSlot m j) (slotOf op j (m .state .round)) bytes s (omega arith) l r n
 
 -- ---- a frame is removed
 

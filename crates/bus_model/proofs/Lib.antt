@@ -9,3 +9,4 @@ pub mod Touched
 pub mod Checked
 pub mod Start
 pub mod Collect
+pub mod Submit
