@@ -9,4 +9,5 @@ pub mod Touched
 pub mod Checked
 pub mod Start
 pub mod Collect
+pub mod Steps
 pub mod Submit

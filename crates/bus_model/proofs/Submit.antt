@@ -1,230 +1,87 @@
--- Each step of a submitted buffer is that of the plain bus on the view, and so is the whole submit.
+-- Submit is that of the plain bus on the view.
 -- Assumes nothing.
-use mathlib.Core.Path.{_≡_, refl, sym, ap, _∙_, subst}
-use Prim.Native.Nat.{ℕ, zero, suc, _+_, _-_, _*_, _≤_, _<_}
+use mathlib.Core.Path.{_≡_, refl, _∙_}
+use Prim.Native.Nat.{ℕ, _<_}
 use native.Mathlib.Omega.{arith}
-use mathlib.Core.Bool.{Bool, true, false, cond, not, _||_}
-use mathlib.Core.List.{List, [], _∷_, _++_}
-use lib.Dec.{leb, ltb, eqb}
-use lib.ListN.{length, set, drop, length-append, length-drop}
-use lib.Seq.{take-length}
-use borrow.Author.Tests.{leb-true, leb-false, ltb-true, eqb-true, eqb-false}
+use mathlib.Core.Bool.{Bool, true, false, cond, not}
+use mathlib.Core.List.{List, [], _∷_}
+use lib.Dec.{ltb}
+use lib.ListN.{length, take, drop}
+use borrow.Author.Tests.{ltb-true}
 use Rattle.operation.specs.Number.{Bytes}
-use Rattle.operation.specs.Format.{headLength, dataLength, header, encode, Typed}
-use Rattle.operation.specs.Rules.{legal}
-use Rattle.operation.specs.declared.Operation.{Operation}
-use Rattle.operation.specs.declared.Operation.the-variants.{FormatError, CanTransmit, FdTransmit, XlTransmit, Confirm, ArbitrationLost, BusError, Configuration, Status, Wakeup}
-use Rattle.operation.proofs.Tests.{false-is-true}
-use Rattle.decoder.specs.Stream.{Item, operation, fault, bytesOf}
-use Rattle.decoder.specs.Front.{decode}
-use Rattle.decoder.specs.declared.Front.the-variants.{Found}
-use Rattle.decoder.proofs.Found.{found}
-use Rattle.decoder.proofs.Decoded.{Back, decoded}
-use Rattle.slots.specs.Slots.{slotOf}
-use Rattle.plain_bus.specs.Kinds.{isTransmit}
-use Rattle.plain_bus.specs.Held.{Node, busOff, withStatus, withBehaviour, withRates, withNode, enqueue}
-use Rattle.plain_bus.specs.Refusal.{Refusal, fourPending, queueFull}
-use Rattle.plain_bus.specs.Submit.{Step, done, fails, accept, takeTransmit, configure, cleared, setStatus, formatError, answerFormatError}
-use Rattle.plain_bus.specs.Valid.{ReadsWhole, ValidNode}
-use Rattle.plain_bus.proofs.Codec.{reads-format-error}
-use Rattle.plain_bus.proofs.Changes.{joined, configured, statusSet, answered}
-use Rattle.plain_bus.proofs.Validity.{change-valid}
-use Rattle.bus_state.specs.Memory.{Memory, slotAt, part, framesFrom, nodeView, view}
-use Rattle.bus_model.specs.Primitives.{entryAt, offAt, entryStatus, entryBehaviour, entryRates, setEntry, fillSlot, nextSlot, putFrame, append, clearNode}
-use Rattle.bus_model.specs.Submit.{Progress, goesOn, stops, roomAt, transmitIn, configureIn, statusOf, statusIn, answerIn}
-use Rattle.bus_model.specs.Refines.{TypedSlot}
-use Rattle.bus_model.proofs.Writes.{same-refl}
-use Rattle.bus_model.proofs.Views.{entryView, length-frames}
-use Rattle.bus_model.proofs.Frames.{slot-signed, put-view, put-others, put-sized, put-entry, put-slot, put-slots}
-use Rattle.bus_model.proofs.Lawful.{transmit-short}
-use Rattle.bus_model.proofs.Buses.{view-length, view-at, view-round}
-use Rattle.bus_model.proofs.Validity.{Good, good-node, good-number, good-fits, queue-length}
-use Rattle.bus_model.proofs.Touched.{good-tidy, Touched, touched-view, touched-good, touched-trans, touched-as, valid-set, entry-touched, append-touched}
+use Rattle.operation.proofs.Numbers.{take-bytes, drop-bytes}
+use Rattle.decoder.specs.Stream.{Item, bytesOf, itemsOf}
+use Rattle.decoder.proofs.Streams.{unroll}
+use Rattle.plain_bus.specs.Refusal.{Refusal, notAttached, bufferTooLong}
+use Rattle.plain_bus.specs.Submit.{Step, done, fails, takeItem, takeItems}
+use Rattle.plain_bus.specs.Calls.{refused, accepted, refuses, maxSubmit, taken, submit}
+use Rattle.plain_bus.proofs.Whole.{along, items-nil, ValidItems, items-valid}
+use Rattle.bus_state.specs.Memory.{Memory, view}
+use Rattle.bus_state.specs.Valid.{validState}
+use Rattle.bus_model.specs.Submit.{Progress, goesOn, stops, itemIn, itemsIn}
+use Rattle.bus_model.specs.Calls.{refusing, takenIn, submitted, submitIn}
+use Rattle.bus_model.specs.Refines.{Typed, Refines}
+use Rattle.bus_model.proofs.Buses.{view-length}
+use Rattle.bus_model.proofs.Validity.{Good, valid-good}
+use Rattle.bus_model.proofs.Checked.{checked-passes, unchanged, changed}
+use Rattle.bus_model.proofs.Steps.{Agrees, item-agrees}
 
--- a step on the memory and one on the plain bus: both done, with this node count, or both failed alike
-abbrev pub Agrees : ℕ → Progress → Step → Type 0
-Agrees count (goesOn m) (done b) = (view m ≡ b) × Good m × (m .state .count ≡ count)
-Agrees count (goesOn m) (fails r) = ⊥
-Agrees count (stops r) (done b) = ⊥
-Agrees count (stops r) (fails r′) = r ≡ r′
+-- each item's numbers are bytes, where those of the buffer are
+abbrev ItemBytes : List Item → Type 0
+ItemBytes [] = Unit {0}
+ItemBytes (i ∷ is) = Bytes (bytesOf i) × ItemBytes is
 
--- ---- the bytes of a Transmit
+item-bytes : (s : List ℕ) → Bytes s → ItemBytes (itemsOf s)
+item-bytes s = along (λ s. Bytes s → ItemBytes (itemsOf s)) (λ u. rw items-nil tt)
+    (λ number n s e r u. rw (unroll s e) (take-bytes n s u, r (drop-bytes n s u)))
+    (λ op n s e r u. rw (unroll s e) (take-bytes n s u, r (drop-bytes n s u))) s
 
-record Parts (op : Operation) (bytes : List ℕ) : Type 0 where
-  typed : Typed op
-  lawful : legal op ≡ true
-  same : encode op (drop (headLength op) bytes) ≡ bytes
-  size : length (drop (headLength op) bytes) ≡ dataLength op
+-- all steps
+items-agree : (k : ℕ) (is : List Item) (m : Memory) → Good m → k < m .state .count → ValidItems is → ItemBytes is
+    → Agrees (m .state .count) (itemsIn k is (goesOn m)) (takeItems k is (done (view m)))
+unfolding itemsIn takeItems
+items-agree k [] m g h v u = (refl, g, refl)
+items-agree k (i ∷ is) m g h v u =
+    go (itemIn m k i) (takeItem (view m) k i) (item-agrees m g k h i (v .0) (u .0)) (λ m′ g′ h′. items-agree k is m′ g′ h′ (v .1) (u .1))
+  where
+    stopped : (is : List Item) (r : Refusal) → Agrees (m .state .count) (itemsIn k is (stops r)) (takeItems k is (fails r))
+    stopped [] r = refl
+    stopped (i ∷ is) r = refl
 
-parts : (op : Operation) (bytes : List ℕ) → Bytes bytes → ReadsWhole op bytes → Parts op bytes
-parts op bytes u e =
-    let f = found e in
-    let d : decode bytes ≡ Found op (length bytes) = rw (take-length bytes) at (f .decoded) in
-    let b = decoded bytes u (f .stated) op (length bytes) d in
-    record {
-      typed = b .typed;
-      lawful = f .lawful;
-      same = b .same;
-      size = length-drop (headLength op) bytes ∙ omega (arith, f .sized);
-    }
+    go : (p : Progress) (s : Step) → Agrees (m .state .count) p s
+        → ((m′ : Memory) → Good m′ → k < m′ .state .count → Agrees (m′ .state .count) (itemsIn k is (goesOn m′)) (takeItems k is (done (view m′))))
+        → Agrees (m .state .count) (itemsIn k is p) (takeItems k is s)
+    go (goesOn m′) (done b) a rest =
+        let c : m′ .state .count ≡ m .state .count = a .2 in
+        rw (← a .0, ← c) (rest m′ (a .1) (rw c h))
+    go (stops r) (fails r′) a rest = rw (← a) (stopped is r)
 
-typed-slot : (op : Operation) (owner accepted : ℕ) → Typed op → TypedSlot (slotOf op owner accepted)
-unfolding slotOf
-typed-slot (FormatError n) owner accepted t = record { af = omega arith; third = omega arith; fourth = omega arith }
-typed-slot (CanTransmit id ide rtr dl) owner accepted t = record { af = omega arith; third = omega arith; fourth = omega arith }
-typed-slot (FdTransmit id ide brs esi dl) owner accepted t = record { af = omega arith; third = t .3; fourth = omega arith }
-typed-slot (XlTransmit id ide sec sdt vcid af dl) owner accepted t = record { af = t .5; third = t .3; fourth = t .4 }
-typed-slot (Confirm id) owner accepted t = record { af = omega arith; third = omega arith; fourth = omega arith }
-typed-slot (ArbitrationLost id) owner accepted t = record { af = omega arith; third = omega arith; fourth = omega arith }
-typed-slot (BusError id code flag sender) owner accepted t = record { af = omega arith; third = omega arith; fourth = omega arith }
-typed-slot (Configuration kind value) owner accepted t = record { af = omega arith; third = omega arith; fourth = omega arith }
-typed-slot (Status status) owner accepted t = record { af = omega arith; third = omega arith; fourth = omega arith }
-typed-slot Wakeup owner accepted t = record { af = omega arith; third = omega arith; fourth = omega arith }
+-- ---- the call
 
-module _ (m : Memory) (g : Good m) (k : ℕ) (h : k < m .state .count) where
-  -- a step that touches node k, and leaves it valid
-  one-agrees : (m′ : Memory) (d : Node) → Touched m m′ k d → ValidNode (m .state .round) d
-      → Agrees (m .state .count) (goesOn m′) (done (withNode (view m) k d))
-  one-agrees m′ d t v =
-      (touched-view m g k h m′ d t,
-      touched-good m g k h m′ d t (valid-set (view m) k d (g .valid) (rw (view-length m) h) (rw (view-round m) v)),
-      t .count)
+module _ (m : Memory) (g : Good m) (k : ℕ) (buffer : List ℕ) (u : Bytes buffer) where
+  taken-refines : (p : Progress) (s : Step) → Agrees (m .state .count) p s → Refines (takenIn m p) (taken (view m) s)
+  taken-refines (goesOn m′) (done b) a = changed m′ b (a .1) (a .0) accepted
+  taken-refines (stops r) (fails r′) a = rw (← a) (unchanged m g (refused r))
 
-  status-view : nodeView m k .status ≡ entryAt m k .status
-  unfolding nodeView
-  status-view = refl
-
-  pending-view : length (nodeView m k .pending) ≡ entryAt m k .pending
-  unfolding nodeView
-  pending-view = length-frames m (4 * k) (entryAt m k .pending)
-
-  -- ---- Transmit
-
-  put-touched : (op : Operation) (bytes : List ℕ) → isTransmit op ≡ true → Parts op bytes → entryAt m k .pending < 4
-      → Touched m (putFrame m k op (drop (headLength op) bytes)) k
-      (accept (nodeView m k) (record { op = op; bytes = bytes; accepted = m .state .round }))
-  unfolding putFrame fillSlot setEntry
-  put-touched op bytes t p few =
-      let x = drop (headLength op) bytes in
-      let l : length (drop (headLength op) bytes) ≤ 2_048 = rw (p .size) (transmit-short op t (p .lawful)) in
-      let s = g .typed .sized in
-      let n = good-number m g k h in
-      let e = put-entry m k op x s n few l in
-      let own = put-slot m k op x s n few l in
-      let other = put-slots m k op x s n few l in
-      record {
-        count = refl;
-        round = refl;
-        sized = put-sized m k op x s n few l;
-        others = λ i o. put-others m k op x s n few l i o;
-        own =
-            put-view m k op x s n few l t (p .size) (good-fits m g k h)
-            ∙ ap (λ (y : List ℕ). accept (nodeView m k) (record { op = op; bytes = y; accepted = m .state .round })) (p .same);
-        tidy = record {
-          fill = rw e (g .fill k h);
-          owned = λ q u.
-              owner (putFrame m k op x) own other q (let u′ : q < entryAt m k .pending + 1 = rw e at u in omega arith) (eqb q (entryAt m k .pending)) refl;
-        };
-        fields = λ f r. typed (putFrame m k op x) own other f r (eqb r (nextSlot m k)) refl;
-      }
+  submitted-refines : Refines (submitted m k buffer) (submit (view m) k buffer)
+  unfolding submitted submit
+  submitted-refines = rw (view-length m) (go (ltb k (m .state .count)) refl (ltb maxSubmit (length buffer)))
     where
-      owner : (m′ : Memory) → slotAt m′ (nextSlot m k) ≡ slotOf op k (m .state .round)
-          → ((r : ℕ) → (r ≡ nextSlot m k → ⊥) → slotAt m′ r ≡ slotAt m r) → (q : ℕ) → q ≤ entryAt m k .pending → (c : Bool)
-          → eqb q (entryAt m k .pending) ≡ c → slotAt m′ (4 * k + q) .owner ≡ k
-      owner m′ own other q u true e =
-          let i = eqb-true q (entryAt m k .pending) e in
-          rw (i, own) (slot-signed op k (m .state .round) t .1)
-      owner m′ own other q u false e =
-          let i = eqb-false q (entryAt m k .pending) e in
-          rw (other (4 * k + q) (λ v. i (omega arith))) (g .owned k h q (omega arith))
+      go : (t : Bool) → ltb k (m .state .count) ≡ t → (l : Bool)
+          → Refines
+          (cond (not t) (refusing notAttached m) (cond l (refusing bufferTooLong m) (takenIn m (itemsIn k (itemsOf buffer) (goesOn m)))))
+          (cond (not t) (refuses notAttached (view m))
+          (cond l (refuses bufferTooLong (view m)) (taken (view m) (takeItems k (itemsOf buffer) (done (view m))))))
+      go false e l = unchanged m g (refused notAttached)
+      go true e true = unchanged m g (refused bufferTooLong)
+      go true e false =
+          taken-refines (itemsIn k (itemsOf buffer) (goesOn m)) (takeItems k (itemsOf buffer) (done (view m)))
+          (items-agree k (itemsOf buffer) m g (ltb-true k (m .state .count) e) (items-valid buffer) (item-bytes buffer u))
 
-      typed : (m′ : Memory) → slotAt m′ (nextSlot m k) ≡ slotOf op k (m .state .round)
-          → ((r : ℕ) → (r ≡ nextSlot m k → ⊥) → slotAt m′ r ≡ slotAt m r) → ((r : ℕ) → TypedSlot (slotAt m r)) → (r : ℕ) → (c : Bool)
-          → eqb r (nextSlot m k) ≡ c → TypedSlot (slotAt m′ r)
-      typed m′ own other f r true e = rw (eqb-true r (nextSlot m k) e, own) (typed-slot op k (m .state .round) (p .typed))
-      typed m′ own other f r false e = rw (other r (eqb-false r (nextSlot m k) e)) (f r)
-
-  transmit-agrees : (op : Operation) (bytes : List ℕ) → isTransmit op ≡ true → Bytes bytes → ReadsWhole op bytes
-      → Agrees (m .state .count) (transmitIn m k op bytes) (takeTransmit (view m) k op bytes)
-  unfolding transmitIn takeTransmit view nodeView
-  transmit-agrees op bytes t u r =
-      rw (view-at m k h, status-view, pending-view, view-round m) (go (offAt m k) refl (leb 4 (entryAt m k .pending)) refl)
-    where
-      go : (o : Bool) → offAt m k ≡ o → (c : Bool) → leb 4 (entryAt m k .pending) ≡ c
-          → Agrees (m .state .count)
-          (cond o (goesOn m) (cond c (stops fourPending) (goesOn (putFrame m k op (drop (headLength op) bytes)))))
-          (cond o (done (view m)) (cond c (fails fourPending) (done (withNode (view m) k
-          (accept (nodeView m k) (record { op = op; bytes = bytes; accepted = m .state .round }))))))
-      go true qo c qc = (refl, g, refl)
-      go false qo true qc = refl
-      go false qo false qc =
-          let few = leb-false 4 (entryAt m k .pending) qc in
-          one-agrees _ _ (put-touched op bytes t (parts op bytes u r) few)
-          (change-valid (joined _ (rw status-view qo) (rw pending-view few) (record { transmit = t; reads = r }) refl) (good-node m g k h))
-
-  -- ---- Configuration and Status
-
-  configure-touched : (kind value : ℕ) → Touched m (configureIn m k kind value) k (configure (nodeView m k) kind value)
-  unfolding configureIn configure entryView nodeView
-  configure-touched kind value = go (eqb kind 4)
-    where
-      go : (t : Bool)
-          → Touched m
-          (cond t (setEntry m k (entryBehaviour (entryAt m k) value))
-          (setEntry m k (entryRates (entryAt m k) (set (entryAt m k .rates) (kind - 1) value)))) k
-          (cond t (withBehaviour (nodeView m k) value) (withRates (nodeView m k) (set (nodeView m k .rates) (kind - 1) value)))
-      go true = entry-touched m (g .typed .sized) k (good-number m g k h) (g .owned k h) _ (g .fill k h) (omega arith)
-      go false = entry-touched m (g .typed .sized) k (good-number m g k h) (g .owned k h) _ (g .fill k h) (omega arith)
-
-  -- a status is set in a memory that differs at node k only
-  status-touched : (m′ : Memory) (d : Node) (status : ℕ) → Touched m m′ k d → Touched m (statusOf m′ k status) k (withStatus d status)
-  unfolding entryView nodeView
-  status-touched m′ d status t =
-      touched-trans t
-      (touched-as (entry-touched m′ (t .sized) k (good-number m g k h) (t .tidy .owned) _ (t .tidy .fill) (omega arith))
-      (ap (λ (x : Node). withStatus x status) (t .own)))
-
-  untouched : Touched m m k (nodeView m k)
-  untouched = record {
-    count = refl;
-    round = refl;
-    sized = g .typed .sized;
-    others = λ i n. same-refl m i;
-    own = refl;
-    tidy = good-tidy g k h;
-    fields = λ f. f;
-  }
-
-  clear-touched : Touched m (clearNode m k) k (cleared (nodeView m k))
-  unfolding clearNode entryView nodeView framesFrom part
-  clear-touched = entry-touched m (g .typed .sized) k (good-number m g k h) (g .owned k h) _ (omega arith) (omega arith)
-
-  set-touched : (status : ℕ) → Touched m (statusIn m k status) k (setStatus (nodeView m k) status)
-  unfolding statusIn setStatus
-  set-touched status = go (eqb status busOff)
-    where
-      go : (t : Bool) → Touched m (statusOf (cond t (clearNode m k) m) k status) k (withStatus (cond t (cleared (nodeView m k)) (nodeView m k)) status)
-      go true = status-touched _ _ status clear-touched
-      go false = status-touched _ _ status untouched
-
-  -- ---- Format Error
-
-  -- the bytes of a Format Error are more than those that it answers
-  answer-small : (bytes : List ℕ) → length (formatError bytes) ≤ 4_096 → length bytes < 65_536
-  unfolding encode
-  answer-small bytes l = let e = length-append (header (FormatError (length bytes))) bytes in omega arith
-
-  answer-agrees : (bytes : List ℕ) → Agrees (m .state .count) (answerIn m k bytes) (answerFormatError (view m) k bytes)
-  unfolding answerIn answerFormatError
-  answer-agrees bytes = rw (view-at m k h, queue-length m g k h) (go (roomAt m k (formatError bytes)) refl)
-    where
-      go : (t : Bool) → roomAt m k (formatError bytes) ≡ t
-          → Agrees (m .state .count) (cond t (goesOn (append m k (formatError bytes))) (stops queueFull))
-          (cond t (done (withNode (view m) k (enqueue (nodeView m k) (formatError bytes)))) (fails queueFull))
-      go false q = refl
-      go true q =
-          let room = leb-true (entryAt m k .fill + length (formatError bytes)) 4_096 q in
-          one-agrees _ _ (append-touched m (g .typed .sized) k (good-number m g k h) (g .owned k h) (formatError bytes) room)
-          (change-valid (answered (FormatError (length bytes)) (formatError bytes)
-          (reads-format-error bytes (answer-small bytes (omega arith))) refl (rw (queue-length m g k h) room))
-          (good-node m g k h))
+-- submit, for every valid memory and every buffer of bytes
+pub submit-refines : (m : Memory) (k : ℕ) (buffer : List ℕ) → Typed m → validState (m .state) (m .slots) ≡ true → Bytes buffer
+    → Refines (submitIn m k buffer) (submit (view m) k buffer)
+unfolding submitIn
+submit-refines m k buffer t v u =
+    let g = valid-good m t v in
+    rw (checked-passes m (submitted m k buffer) g) (submitted-refines m g k buffer u)

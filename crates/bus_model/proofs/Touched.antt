@@ -9,18 +9,19 @@ use lib.Dec.{eqb, ltb}
 use lib.ListN.{length, set, length-set}
 use lib.Seq.{getD-set-same, getD-set-other}
 use borrow.Author.Tests.{ltb-true, ltb-false}
-use Rattle.plain_bus.specs.Held.{Node, Bus, lastRound, newNode, nodeAt, withNode, withNodes, withRound, eachNode, enqueue}
+use Rattle.plain_bus.specs.Held.{Node, Bus, lastRound, newNode, nodeAt, withNode, withNodes, withRound, eachNode, everyNode, hasRoom, allHaveRoom, enqueue}
 use Rattle.plain_bus.specs.Valid.{ValidNode, Valid}
-use Rattle.plain_bus.proofs.Nodes.{length-each, each-at}
+use Rattle.plain_bus.proofs.Nodes.{length-each, each-at, room-at}
 use Rattle.plain_bus.proofs.Kept.{by-number}
-use Rattle.bus_state.specs.Memory.{Memory, slotAt, nodeView, view}
+use Rattle.bus_state.specs.Memory.{Memory, slotAt, nodeView, nodesFrom, view}
 use Rattle.bus_state.specs.declared.NodeState.{NodeState}
 use Rattle.bus_model.specs.Primitives.{entryAt, entryFill, setEntry, layQueue, append, inTurn}
+use Rattle.bus_model.specs.Submit.{roomForEach}
 use Rattle.bus_model.specs.Refines.{Sized, TypedSlot, Typed}
 use Rattle.bus_model.proofs.Writes.{Same, same-refl, same-trans, entry-own, entry-others, entry-sized}
 use Rattle.bus_model.proofs.Views.{Fits, same-fits, same-view, entryView, entry-view, append-view, append-others, append-sized}
 use Rattle.bus_model.proofs.Buses.{view-length, view-at, view-round, view-set, view-each}
-use Rattle.bus_model.proofs.Validity.{Owned, Good, good-node, good-number, good-fits, fits-from}
+use Rattle.bus_model.proofs.Validity.{Owned, Good, good-node, good-number, good-fits, fits-from, queue-length}
 
 -- every slot's fields stay within their types
 abbrev pub FieldsKept : Memory → Memory → Type 0
@@ -213,3 +214,29 @@ module _ (m : Memory) (f : ℕ → Node → Node) (later : ℕ)
 module _ (m x : Memory) (f : ℕ → Node → Node) (g : Good m) (t : Going m x (m .state .count) f) where
   pub going-view : view x ≡ withNodes (view m) (eachNode f 0 (view m .nodes))
   going-view = view-each m x f (t .count) (t .round) (λ i h. t .past i h .0)
+
+  pub going-good : (b : Bus) → view x ≡ b → Valid b → Good x
+  going-good b e v = good-from m x b g e v (t .count) (t .sized) (t .fields) (λ j h. t .past j h .1) (λ j h. t .left j h)
+
+-- ---- room in every queue
+
+room-from : (part : ℕ → List ℕ) (part′ : ℕ → Node → List ℕ) (m : Memory) (n j : ℕ)
+    → ((i : ℕ) → j ≤ i → i < j + n → (part i ≡ part′ i (nodeView m i)) × (length (nodeView m i .queue) ≡ entryAt m i .fill))
+    → roomForEach part m j n ≡ everyNode (λ i d. hasRoom d (part′ i d)) j (nodesFrom m j n)
+unfolding roomForEach everyNode nodesFrom
+room-from part part′ m zero j f = refl
+room-from part part′ m (suc n) j f =
+    let a = f j (omega arith) (omega arith) in
+    rw (a .0, a .1, room-from part part′ m n (suc j) (λ i l u. f i (omega arith) (omega arith)))
+
+-- the test of all queues is that of the plain bus
+pub room-view : (part : ℕ → List ℕ) (part′ : ℕ → Node → List ℕ) (m : Memory) → Good m
+    → ((i : ℕ) → i < m .state .count → part i ≡ part′ i (nodeView m i)) → roomForEach part m 0 (m .state .count) ≡ allHaveRoom part′ (view m)
+unfolding view
+room-view part part′ m g f =
+    room-from part part′ m (m .state .count) 0 (λ i l u. let h : i < m .state .count = omega arith in (f i h, queue-length m g i h))
+
+-- and what it says of one
+pub room-one : (part : ℕ → Node → List ℕ) (m : Memory) → Good m → allHaveRoom part (view m) ≡ true → (j : ℕ) → j < m .state .count
+    → entryAt m j .fill + length (part j (nodeView m j)) ≤ 4_096
+room-one part m g e j h = rw (view-at m j h, queue-length m g j h) at (room-at part (view m) e j (rw (view-length m) h))
