@@ -11,3 +11,4 @@ pub mod Start
 pub mod Collect
 pub mod Steps
 pub mod Submit
+pub mod Winner
