@@ -1,6 +1,6 @@
 -- What the view says after a frame is put, and after one is removed: at its node, and at every other.
 -- Assumes nothing.
-use mathlib.Core.Path.{_≡_, refl, sym, ap, _∙_}
+use mathlib.Core.Path.{_≡_, refl, sym, ap, _∙_, subst}
 use Prim.Native.Nat.{ℕ, zero, suc, _+_, _-_, _*_, _≤_, _<_}
 use native.Mathlib.Omega.{arith}
 use native.Mathlib.Nat.{add-zero}
@@ -16,12 +16,14 @@ use Rattle.operation.specs.declared.Operation.{Operation}
 use Rattle.operation.specs.declared.Operation.the-variants.{FormatError, CanTransmit, FdTransmit, XlTransmit, Confirm, ArbitrationLost, BusError, Configuration, Status, Wakeup}
 use Rattle.operation.proofs.Tests.{false-is-true}
 use Rattle.slots.specs.Slots.{contentOf, slotOf}
+use Rattle.slots.specs.declared.Slot.{Slot}
 use Rattle.slots.specs.declared.Content.the-variants.{Transmit}
 use Rattle.plain_bus.specs.Kinds.{isTransmit}
 use Rattle.plain_bus.specs.Held.{Frame, Node, withPending}
 use Rattle.plain_bus.specs.Submit.{accept}
 use Rattle.plain_bus.specs.Round.{without}
 use Rattle.bus_state.specs.Memory.{Memory, operationAt, dataAtSlot, slotAt, part, frameAt, framesFrom, nodeView}
+use Rattle.bus_state.specs.declared.State.{State}
 use Rattle.bus_model.specs.Primitives.{entryAt, entryPending, setEntry, fillSlot, nextSlot, putFrame, moveDown, removeFrame}
 use Rattle.bus_model.specs.Refines.{Sized}
 use Rattle.bus_model.proofs.Offsets.{length-part}
@@ -303,3 +305,32 @@ module _ (m : Memory) (j q : ℕ) (s : Sized m) (h : j < 8) (f : Fits m j) (l : 
       go false e =
           let a : suc (4 * j) + i ≡ 4 * j + suc i = omega arith in
           inr (rw a at (removed-behind i (ltb-false i q e) g .slot))
+
+  pub remove-state : (removeFrame m j q .state .count ≡ m .state .count) × (removeFrame m j q .state .round ≡ m .state .round)
+  unfolding removeFrame setEntry
+  remove-state = (ap (λ (x : State). x .count) (removed-down .state), ap (λ (x : State). x .round) (removed-down .state))
+
+  pub remove-entry : entryAt (removeFrame m j q) j ≡ entryPending (entryAt m j) (entryAt m j .pending - 1)
+  unfolding removeFrame
+  remove-entry =
+      let n : length (lowered m j q .state .nodes) ≡ 8 = removed-down .sized .nodes in
+      entry-own (lowered m j q) j (entryPending (entryAt m j) (entryAt m j .pending - 1)) (omega arith)
+
+  -- what holds of every slot still does
+  pub remove-all : (P : Slot → Type 0) → ((r : ℕ) → P (slotAt m r)) → (r : ℕ) → P (slotAt (removeFrame m j q) r)
+  unfolding removeFrame setEntry
+  remove-all P f r = go (ltb r (4 * j + q)) refl (ltb r (4 * j + q + (entryAt m j .pending - 1 - q))) refl
+    where
+      go : (a : Bool) → ltb r (4 * j + q) ≡ a → (b : Bool) → ltb r (4 * j + q + (entryAt m j .pending - 1 - q)) ≡ b → P (slotAt (lowered m j q) r)
+      go true e b e′ = let l = ltb-true r (4 * j + q) e in subst P (sym (removed-down .slot r (λ i u v. omega arith))) (f r)
+      go false e true e′ =
+          let l = ltb-false r (4 * j + q) e in
+          let u = ltb-true r (4 * j + q + (entryAt m j .pending - 1 - q)) e′ in
+          let k : 4 * j + q + (r - (4 * j + q)) ≡ r = omega arith in
+          let s : slotAt (lowered m j q) r ≡ slotAt m (suc (4 * j + q) + (r - (4 * j + q))) =
+          subst (λ (i : ℕ). slotAt (lowered m j q) i ≡ slotAt m (suc (4 * j + q) + (r - (4 * j + q)))) k
+          (removed-down .down (r - (4 * j + q)) (omega arith) .slot) in
+          subst P (sym s) (f (suc (4 * j + q) + (r - (4 * j + q))))
+      go false e false e′ =
+          let l = ltb-false r (4 * j + q + (entryAt m j .pending - 1 - q)) e′ in
+          subst P (sym (removed-down .slot r (λ i u v. omega arith))) (f r)

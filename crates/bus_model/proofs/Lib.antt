@@ -12,3 +12,4 @@ pub mod Collect
 pub mod Steps
 pub mod Submit
 pub mod Winner
+pub mod Settle

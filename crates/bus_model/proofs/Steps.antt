@@ -34,13 +34,13 @@ use Rattle.bus_state.specs.Memory.{Memory, slotAt, part, framesFrom, nodeView, 
 use Rattle.bus_model.specs.Primitives.{entryAt, offAt, entryStatus, entryBehaviour, entryRates, setEntry, fillSlot, nextSlot, putFrame, append, clearNode, inTurn}
 use Rattle.bus_model.specs.Submit.{Progress, goesOn, stops, roomAt, transmitIn, configureIn, statusOf, statusIn, wakeupAt, wakeAt, wakeupIn, answerIn, itemIn}
 use Rattle.bus_model.specs.Refines.{Sized, TypedSlot}
-use Rattle.bus_model.proofs.Writes.{Same, same-refl}
+use Rattle.bus_model.proofs.Writes.{Same}
 use Rattle.bus_model.proofs.Views.{same-view, entryView, length-frames}
 use Rattle.bus_model.proofs.Frames.{slot-signed, put-view, put-others, put-sized, put-entry, put-slot, put-slots}
 use Rattle.bus_model.proofs.Lawful.{transmit-short}
 use Rattle.bus_model.proofs.Buses.{view-length, view-at, view-round}
 use Rattle.bus_model.proofs.Validity.{Good, good-node, good-number, good-fits, queue-length}
-use Rattle.bus_model.proofs.Touched.{same-tidy, good-tidy, Touched, touched-view, touched-good, touched-trans, touched-as, valid-set, valid-each, entry-touched, append-touched, in-turn, going-view, going-good, room-view, room-one}
+use Rattle.bus_model.proofs.Touched.{same-tidy, good-tidy, Touched, touched-view, touched-good, touched-trans, touched-as, untouched, valid-set, valid-each, entry-touched, append-touched, in-turn, going-view, going-good, room-view, room-one}
 
 -- a step on the memory and one on the plain bus: both done, with this node count, or both failed alike
 abbrev pub Agrees : ℕ → Progress → Step → Type 0
@@ -185,17 +185,6 @@ module _ (m : Memory) (g : Good m) (k : ℕ) (h : k < m .state .count) where
       (touched-as (entry-touched m′ (t .sized) k (good-number m g k h) (t .tidy .owned) _ (t .tidy .fill) (omega arith))
       (ap (λ (x : Node). withStatus x status) (t .own)))
 
-  untouched : Touched m m k (nodeView m k)
-  untouched = record {
-    count = refl;
-    round = refl;
-    sized = g .typed .sized;
-    others = λ i n. same-refl m i;
-    own = refl;
-    tidy = good-tidy g k h;
-    fields = λ f. f;
-  }
-
   clear-touched : Touched m (clearNode m k) k (cleared (nodeView m k))
   unfolding clearNode entryView nodeView framesFrom part
   clear-touched = entry-touched m (g .typed .sized) k (good-number m g k h) (g .owned k h) _ (omega arith) (omega arith)
@@ -206,7 +195,7 @@ module _ (m : Memory) (g : Good m) (k : ℕ) (h : k < m .state .count) where
     where
       go : (t : Bool) → Touched m (statusOf (cond t (clearNode m k) m) k status) k (withStatus (cond t (cleared (nodeView m k)) (nodeView m k)) status)
       go true = status-touched _ _ status clear-touched
-      go false = status-touched _ _ status untouched
+      go false = status-touched _ _ status (untouched m k (g .typed .sized) (good-tidy g k h))
 
   -- ---- Format Error
 

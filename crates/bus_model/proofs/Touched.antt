@@ -1,25 +1,28 @@
 -- A step that touches one node, and one that goes over all of them: what it does to the view, and that it keeps what is good.
 -- Assumes nothing.
 use mathlib.Core.Path.{_≡_, refl, sym, ap, _∙_, subst}
-use Prim.Native.Nat.{ℕ, zero, suc, _+_, _*_, _≤_, _<_}
+use Prim.Native.Nat.{ℕ, zero, suc, _+_, _-_, _*_, _≤_, _<_}
 use native.Mathlib.Omega.{arith}
+use mathlib.Core.Logic.{_⊎_, inl, inr}
 use mathlib.Core.Bool.{Bool, true, false}
 use mathlib.Core.List.{List, [], _∷_}
 use lib.Dec.{eqb, ltb}
 use lib.ListN.{length, set, length-set}
 use lib.Seq.{getD-set-same, getD-set-other}
 use borrow.Author.Tests.{ltb-true, ltb-false}
-use Rattle.plain_bus.specs.Held.{Node, Bus, lastRound, newNode, nodeAt, withNode, withNodes, withRound, eachNode, everyNode, hasRoom, allHaveRoom, enqueue}
+use Rattle.plain_bus.specs.Held.{Node, Bus, lastRound, newNode, nodeAt, withNode, withPending, withNodes, withRound, eachNode, everyNode, hasRoom, allHaveRoom, enqueue}
+use Rattle.plain_bus.specs.Round.{without}
 use Rattle.plain_bus.specs.Valid.{ValidNode, Valid}
 use Rattle.plain_bus.proofs.Nodes.{length-each, each-at, room-at}
 use Rattle.plain_bus.proofs.Kept.{by-number}
 use Rattle.bus_state.specs.Memory.{Memory, slotAt, nodeView, nodesFrom, view}
 use Rattle.bus_state.specs.declared.NodeState.{NodeState}
-use Rattle.bus_model.specs.Primitives.{entryAt, entryFill, setEntry, layQueue, append, inTurn}
+use Rattle.bus_model.specs.Primitives.{entryAt, entryFill, setEntry, layQueue, append, removeFrame, inTurn}
 use Rattle.bus_model.specs.Submit.{roomForEach}
 use Rattle.bus_model.specs.Refines.{Sized, TypedSlot, Typed}
 use Rattle.bus_model.proofs.Writes.{Same, same-refl, same-trans, entry-own, entry-others, entry-sized}
 use Rattle.bus_model.proofs.Views.{Fits, same-fits, same-view, entryView, entry-view, append-view, append-others, append-sized}
+use Rattle.bus_model.proofs.Frames.{remove-view, remove-others, remove-sized, remove-slot, remove-state, remove-entry, remove-all}
 use Rattle.bus_model.proofs.Buses.{view-length, view-at, view-round, view-set, view-each}
 use Rattle.bus_model.proofs.Validity.{Owned, Good, good-node, good-number, good-fits, fits-from, queue-length}
 
@@ -147,6 +150,29 @@ module _ (m : Memory) (s : Sized m) (k : ℕ) (h : k < 8) (o : Owned m k) where
         fields = λ f. f;
       }
 
+  pub remove-touched : (q : ℕ) → Fits m k → entryAt m k .fill ≤ 4_096 → q < entryAt m k .pending
+      → Touched m (removeFrame m k q) k (withPending (nodeView m k) (without q (nodeView m k .pending)))
+  remove-touched q f room l =
+      let e = remove-entry m k q s h f l in
+      record {
+        count = remove-state m k q s h f l .0;
+        round = remove-state m k q s h f l .1;
+        sized = remove-sized m k q s h f l;
+        others = λ i n. remove-others m k q s h f l i n;
+        own = remove-view m k q s h f l;
+        tidy = record {
+          fill = rw e room;
+          owned = λ i u. let u′ : i < entryAt m k .pending - 1 = rw e at u in owner i u′ (remove-slot m k q s h f l i u′);
+        };
+        fields = remove-all m k q s h f l TypedSlot;
+      }
+    where
+      owner : (i : ℕ) → i < entryAt m k .pending - 1
+          → (slotAt (removeFrame m k q) (4 * k + i) ≡ slotAt m (4 * k + i)) ⊎ (slotAt (removeFrame m k q) (4 * k + i) ≡ slotAt m (4 * k + suc i))
+          → slotAt (removeFrame m k q) (4 * k + i) .owner ≡ k
+      owner i u (inl e) = rw e (o i (omega arith))
+      owner i u (inr e) = rw e (o (suc i) (omega arith))
+
 pub touched-trans : {m m′ m″ : Memory} {k : ℕ} {d d′ : Node} → Touched m m′ k d → Touched m′ m″ k d′ → Touched m m″ k d′
 touched-trans t u = record {
   count = u .count ∙ t .count;
@@ -160,6 +186,17 @@ touched-trans t u = record {
 
 pub touched-as : {m m′ : Memory} {k : ℕ} {d d′ : Node} → Touched m m′ k d → d ≡ d′ → Touched m m′ k d′
 touched-as {m} {m′} {k} t e = subst (Touched m m′ k) e t
+
+pub untouched : (m : Memory) (k : ℕ) → Sized m → Tidy m k → Touched m m k (nodeView m k)
+untouched m k s t = record {
+  count = refl;
+  round = refl;
+  sized = s;
+  others = λ i n. same-refl m i;
+  own = refl;
+  tidy = t;
+  fields = λ f. f;
+}
 
 -- ---- a change at each node in turn
 
