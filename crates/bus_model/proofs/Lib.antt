@@ -13,3 +13,4 @@ pub mod Steps
 pub mod Submit
 pub mod Winner
 pub mod Settle
+pub mod Round
