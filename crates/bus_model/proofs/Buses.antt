@@ -58,7 +58,7 @@ view-set m m′ k d h c r own others =
     (by-number (λ i. i < m′ .state .count → nodeView m′ i ≡ nodeAt (withNode (view m) k d) i) k
     (λ l. own ∙ sym (getD-set-same (view m .nodes) k d newNode (rw (view-length m) h)))
     (λ i n l. let l′ : i < m .state .count = rw c at l in
-      others i l′ n ∙ sym (getD-set-other (view m .nodes) k i d newNode n ∙ view-at m i l′)))
+    others i l′ n ∙ sym (getD-set-other (view m .nodes) k i d newNode n ∙ view-at m i l′)))
 
 -- each node is changed
 pub view-each : (m m′ : Memory) (f : ℕ → Node → Node) → m′ .state .count ≡ m .state .count → m′ .state .round ≡ m .state .round
@@ -67,7 +67,7 @@ view-each m m′ f c r g =
     view-is m′ (withNodes (view m) (eachNode f 0 (view m .nodes))) (length-each f 0 (view m .nodes) ∙ view-length m ∙ sym c)
     (view-round m ∙ sym r)
     (λ i l. let l′ : i < m .state .count = rw c at l in
-      g i l′ ∙ sym (each-at f (view m .nodes) i (rw (view-length m) l′) ∙ ap (f i) (view-at m i l′)))
+    g i l′ ∙ sym (each-at f (view m .nodes) i (rw (view-length m) l′) ∙ ap (f i) (view-at m i l′)))
 
 -- the frames of a node by position
 pub frames-at : (m : Memory) (p n i : ℕ) (f : Frame) → i < n → getD (framesFrom m p n) i f ≡ frameAt m (p + i)

@@ -15,8 +15,11 @@ use Rattle.bus_model.proofs.Validity.{Good, good-valid}
 lent-well : (m : Memory) → Sized m → lentWell m ≡ true
 unfolding lentWell
 lent-well m s =
-    rw (eq-eqb (length (m .slots)) 32 (s .slots), eq-eqb (length (m .payload)) 65_536 (s .payload),
-    eq-eqb (length (m .queues)) 32_768 (s .queues))
+    rw (
+      eq-eqb (length (m .slots)) 32 (s .slots),
+      eq-eqb (length (m .payload)) 65_536 (s .payload),
+      eq-eqb (length (m .queues)) 32_768 (s .queues),
+    )
 
 -- a valid memory passes both
 pub checked-passes : (m : Memory) (r : Result) → Good m → checked m r ≡ r

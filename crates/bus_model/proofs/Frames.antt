@@ -86,9 +86,12 @@ module _ (m : Memory) (j : ℕ) (op : Operation) (bytes : List ℕ) (s : Sized m
   unfolding nodeView entryView putFrame fillSlot
   put-view t e f =
       entry-view (laid m j op bytes) j _ (omega (arith, s .nodes))
-      ∙ rw (add-one (entryAt m j .pending), frames-snoc (laid m j op bytes) (4 * j) (entryAt m j .pending),
-      frames-moved m (laid m j op bytes) (4 * j) (4 * j) (entryAt m j .pending) (λ i g. laid-moved (4 * j + i) (λ q. omega arith) (f .short i g)),
-      laid-frame t e)
+      ∙ rw (
+        add-one (entryAt m j .pending),
+        frames-snoc (laid m j op bytes) (4 * j) (entryAt m j .pending),
+        frames-moved m (laid m j op bytes) (4 * j) (4 * j) (entryAt m j .pending) (λ i g. laid-moved (4 * j + i) (λ q. omega arith) (f .short i g)),
+        laid-frame t e,
+      )
 
   pub put-others : (i : ℕ) → (i ≡ j → ⊥) → Same m (putFrame m j op bytes) i
   unfolding putFrame fillSlot

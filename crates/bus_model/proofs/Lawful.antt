@@ -50,10 +50,10 @@ fd-short dl e = go (leb dl 8) refl e
     go false q e =
         one-small dl 12 _ e (λ q. omega arith)
         (λ e. one-small dl 16 _ e (λ q. omega arith)
-          (λ e. one-small dl 20 _ e (λ q. omega arith)
-            (λ e. one-small dl 24 _ e (λ q. omega arith)
-              (λ e. one-small dl 32 _ e (λ q. omega arith)
-                (λ e. one-small dl 48 _ e (λ q. omega arith) (λ e. one-small dl 64 _ e (λ q. omega arith) (λ e. false-is-true e)))))))
+        (λ e. one-small dl 20 _ e (λ q. omega arith)
+        (λ e. one-small dl 24 _ e (λ q. omega arith)
+        (λ e. one-small dl 32 _ e (λ q. omega arith)
+        (λ e. one-small dl 48 _ e (λ q. omega arith) (λ e. one-small dl 64 _ e (λ q. omega arith) (λ e. false-is-true e)))))))
 
 -- a Transmit that meets the content rules has at most 2,048 data bytes
 pub transmit-short : (op : Operation) → isTransmit op ≡ true → legal op ≡ true → dataLength op ≤ 2_048

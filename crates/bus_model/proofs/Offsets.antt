@@ -39,8 +39,11 @@ module _ (at : ℕ) (xs l : List ℕ) (h : at + length xs ≤ length l) where
       let k : length (take at l) ≡ at = length-take-le at l (omega arith) in
       let la : a ≤ length (take at l) = omega arith in
       let ln : n ≤ length (drop a (take at l)) = rw length-drop (omega arith) in
-      rw (append-assoc (take at l) xs (drop (at + length xs) l), drop-append-le a (take at l) (xs ++ drop (at + length xs) l) la,
-      take-append-le n (drop a (take at l)) (xs ++ drop (at + length xs) l) ln)
+      rw (
+        append-assoc (take at l) xs (drop (at + length xs) l),
+        drop-append-le a (take at l) (xs ++ drop (at + length xs) l) la,
+        take-append-le n (drop a (take at l)) (xs ++ drop (at + length xs) l) ln,
+      )
       (sym (ap (λ (q : List ℕ). take n (drop a q)) (sym (take-append-drop at l))
       ∙ rw (drop-append-le a (take at l) (drop at l) la) (take-append-le n (drop a (take at l)) (drop at l) ln)))
 

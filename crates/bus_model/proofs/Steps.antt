@@ -86,10 +86,11 @@ module _ (m : Memory) (g : Good m) (k : ℕ) (h : k < m .state .count) where
   -- a step that touches node k, and leaves it valid
   one-agrees : (m′ : Memory) (d : Node) → Touched m m′ k d → ValidNode (m .state .round) d
       → Agrees (m .state .count) (goesOn m′) (done (withNode (view m) k d))
-  one-agrees m′ d t v =
-      (touched-view m g k h m′ d t,
-      touched-good m g k h m′ d t (valid-set (view m) k d (g .valid) (rw (view-length m) h) (rw (view-round m) v)),
-      t .count)
+  one-agrees m′ d t v = (
+    touched-view m g k h m′ d t,
+    touched-good m g k h m′ d t (valid-set (view m) k d (g .valid) (rw (view-length m) h) (rw (view-round m) v)),
+    t .count,
+  )
 
   status-view : nodeView m k .status ≡ entryAt m k .status
   unfolding nodeView

@@ -224,10 +224,10 @@ module _ (m : Memory) (f : ℕ → Node → Node) (later : ℕ)
         past = by-number (λ i. i < suc j → (nodeView (change x j) i ≡ f i (nodeView m i)) × Tidy (change x j) i) j
             (λ l. (t .own, t .tidy))
             (λ i n l.
-              let l′ : i < j = omega arith in
-              let a = g .past i l′ in
-              let w = fits-from x i later (f i (nodeView m i)) (a .0) (valid i (omega arith)) (a .1 .fill) in
-              (same-view (t .others i n) w ∙ a .0, same-tidy (t .others i n) w (a .1)));
+            let l′ : i < j = omega arith in
+            let a = g .past i l′ in
+            let w = fits-from x i later (f i (nodeView m i)) (a .0) (valid i (omega arith)) (a .1 .fill) in
+            (same-view (t .others i n) w ∙ a .0, same-tidy (t .others i n) w (a .1)));
         left = λ i l. same-trans (g .left i (omega arith)) (t .others i (λ e. omega arith));
       }
 

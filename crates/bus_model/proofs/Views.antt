@@ -125,8 +125,10 @@ module _ (m : Memory) (j : ℕ) (bytes : List ℕ) (s : Sized m) (h : j < 8) (l 
   unfolding nodeView entryView append
   append-view =
       entry-view (layQueue m j bytes) j _ (omega (arith, s .nodes))
-      ∙ rw (over-grown (4_096 * j) (entryAt m j .fill) bytes (m .queues) (omega (arith, s .queues)),
-      frames-moved m (layQueue m j bytes) (4 * j) (4 * j) (entryAt m j .pending) (λ i l. record { slot = refl; bytes = refl }))
+      ∙ rw (
+        over-grown (4_096 * j) (entryAt m j .fill) bytes (m .queues) (omega (arith, s .queues)),
+        frames-moved m (layQueue m j bytes) (4 * j) (4 * j) (entryAt m j .pending) (λ i l. record { slot = refl; bytes = refl }),
+      )
 
   pub append-others : (i : ℕ) → (i ≡ j → ⊥) → Same m (append m j bytes) i
   unfolding append
