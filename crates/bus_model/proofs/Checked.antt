@@ -1,8 +1,7 @@
 -- Refusals 1 and 3 in front of a call, and results that change nothing or give a good memory.
 -- Assumes nothing.
 use mathlib.Core.Path.{_≡_, refl}
-use Prim.Native.Nat.{ℕ}
-use mathlib.Core.Bool.{Bool, true}
+use mathlib.Core.Bool.{true}
 use lib.ListN.{length}
 use borrow.Author.Tests.{eq-eqb}
 use Rattle.plain_bus.specs.Held.{Bus}

@@ -1,11 +1,13 @@
 pub mod Offsets
 pub mod Writes
 pub mod Views
-pub mod Frames
+pub mod Puts
+pub mod Removes
 pub mod Buses
 pub mod Lawful
 pub mod Validity
 pub mod Touched
+pub mod Turns
 pub mod Checked
 pub mod Start
 pub mod Collect

@@ -1,9 +1,9 @@
 -- Parts of a list by offsets, after bytes were laid over it: there, before, behind, and across the end of what was there.
 -- Assumes nothing.
 use mathlib.Core.Path.{_≡_, refl, sym, ap, _∙_}
-use Prim.Native.Nat.{ℕ, zero, suc, _+_, _-_, _≤_, _<_}
+use Prim.Native.Nat.{ℕ, _+_, _-_, _≤_}
 use native.Mathlib.Omega.{arith}
-use mathlib.Core.List.{List, [], _∷_, _++_, append-assoc}
+use mathlib.Core.List.{List, [], _++_, append-assoc}
 use lib.ListN.{length, take, drop, length-append, length-take, length-drop, take-append-drop}
 use lib.Seq.{take-append-seam, drop-at, take-append-le, drop-append-le, drop-append-add, drop-drop, length-take-le, take-add}
 use Rattle.encoder.specs.Writing.{over}

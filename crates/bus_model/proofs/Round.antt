@@ -1,36 +1,34 @@
 -- A round is that of the plain bus on the view.
 -- Assumes nothing.
-use mathlib.Core.Path.{_≡_, refl, sym, ap, _∙_, subst}
-use Prim.Native.Nat.{ℕ, zero, suc, _+_, _-_, _*_, _≤_, _<_}
-use native.Mathlib.Omega.{arith}
+use mathlib.Core.Path.{_≡_, refl, sym, ap, _∙_}
+use Prim.Native.Nat.{ℕ, _+_, _-_, _*_, _<_}
 use mathlib.Core.Bool.{Bool, true, false, cond, not}
-use mathlib.Core.List.{List, []}
 use lib.Dec.{leb, eqb}
 use lib.ListN.{length}
 use borrow.Author.Tests.{leb-false, eqb-true}
-use Rattle.plain_bus.specs.Held.{Node, Bus, lastRound, nodeAt, withRound, allHaveRoom}
+use Rattle.plain_bus.specs.Held.{Bus, lastRound, nodeAt, withRound, allHaveRoom}
 use Rattle.plain_bus.specs.Refusal.{badInjection, queueFull, roundsUsedUp}
-use Rattle.plain_bus.specs.Order.{Entry, Pending, Winner, nobody, wins, winner}
+use Rattle.plain_bus.specs.Order.{Entry, Winner, nobody, wins, winner}
 use Rattle.plain_bus.specs.Round.{Injection, isErrored, winnerId, owed, settle, afterRound, age}
 use Rattle.plain_bus.specs.Calls.{refused, idle, carried, gives, refuses, wrongInjection, arbitrate, runRound}
-use Rattle.plain_bus.specs.Session.{round, call}
+use Rattle.plain_bus.specs.Session.{round}
 use Rattle.plain_bus.specs.Valid.{ValidNode, Valid}
 use Rattle.plain_bus.proofs.Nodes.{length-each, each-at}
 use Rattle.plain_bus.proofs.Winner.{winner-pending}
 use Rattle.plain_bus.proofs.Kept.{valid-kept}
 use Rattle.plain_bus.proofs.Rounds.{round-done}
-use Rattle.bus_state.specs.Memory.{Memory, framesFrom, nodeView, view}
+use Rattle.bus_state.specs.Memory.{Memory, nodeView, view}
 use Rattle.bus_state.specs.Valid.{validState}
 use Rattle.bus_model.specs.Primitives.{entryAt, setRound, inTurn}
-use Rattle.bus_model.specs.Submit.{roomForEach}
-use Rattle.bus_model.specs.Round.{winnerIn, owedAt, settleAt, afterRoundIn}
+use Rattle.bus_model.specs.Round.{owedAt, settleAt, afterRoundIn}
 use Rattle.bus_model.specs.Calls.{replies, refusing, arbitrateIn, rounded, roundIn}
 use Rattle.bus_model.specs.Refines.{Sized, Typed, Refines}
 use Rattle.bus_model.proofs.Writes.{Same, same-trans}
 use Rattle.bus_model.proofs.Views.{same-fits, same-view, frames-moved, length-frames}
 use Rattle.bus_model.proofs.Buses.{view-length, view-at, view-round, view-is}
 use Rattle.bus_model.proofs.Validity.{Good, valid-good, good-number, good-fits}
-use Rattle.bus_model.proofs.Touched.{same-tidy, good-tidy, Tidy, Touched, touched-as, good-from, Going, in-turn, going-view, room-view, room-one}
+use Rattle.bus_model.proofs.Touched.{same-tidy, good-tidy, Tidy, Touched, touched-as, good-from}
+use Rattle.bus_model.proofs.Turns.{Going, in-turn, going-view, room-view, room-one}
 use Rattle.bus_model.proofs.Checked.{checked-passes, unchanged, changed}
 use Rattle.bus_model.proofs.Winner.{winner-view, injection-view}
 use Rattle.bus_model.proofs.Settle.{owed-view, settle-touched}

@@ -1,22 +1,20 @@
 -- What a round owes one node and makes of it, in the memory and on the plain bus.
 -- Assumes nothing.
-use mathlib.Core.Path.{_≡_, refl, sym, ap, _∙_, subst}
+use mathlib.Core.Path.{_≡_, refl, sym, ap, _∙_}
 use Prim.Native.Nat.{ℕ, zero, suc, _+_, _*_, _≤_, _<_}
 use native.Mathlib.Omega.{arith}
 use mathlib.Core.Bool.{Bool, true, false, cond}
-use mathlib.Core.List.{List, [], _∷_, _++_}
+use mathlib.Core.List.{List, [], _++_}
 use lib.Dec.{eqb}
 use lib.ListN.{length}
-use Rattle.operation.specs.Format.{encode}
-use Rattle.plain_bus.specs.Held.{Frame, Node, discards, withPending, enqueue}
+use Rattle.plain_bus.specs.Held.{Node, discards, withPending, enqueue}
 use Rattle.plain_bus.specs.Order.{Entry}
 use Rattle.plain_bus.specs.Round.{Injection, noError, injected, newsFor, without, losers, lostNotices, drops, told, stay, owed, settle}
-use Rattle.bus_state.specs.Memory.{Memory, part, frameAt, framesFrom, nodeView}
+use Rattle.bus_state.specs.Memory.{Memory, frameAt, framesFrom, nodeView}
 use Rattle.bus_model.specs.Primitives.{entryAt, dropFrames, removeFrame}
 use Rattle.bus_model.specs.Round.{discardsAt, newsAt, noticesFrom, noticesAt, withoutWinner, owedAt, withoutLosers, settleAt}
 use Rattle.bus_model.specs.Refines.{Sized}
-use Rattle.bus_model.proofs.Offsets.{length-part}
-use Rattle.bus_model.proofs.Views.{Fits, entryView}
+use Rattle.bus_model.proofs.Views.{Fits, entryView, queue-filled}
 use Rattle.bus_model.proofs.Touched.{Tidy, Touched, touched-trans, touched-as, untouched, entry-touched, append-touched, remove-touched}
 
 news-view : (e : Injection) (w : Entry) (m : Memory) (j : ℕ) → newsAt e w m j ≡ newsFor e w j (nodeView m j)
@@ -32,10 +30,6 @@ notices-frames m (suc n) p = rw (notices-frames m n (suc p))
 notices-view : (m : Memory) (j : ℕ) → noticesAt m j ≡ cond (discards (nodeView m j)) (lostNotices (nodeView m j .pending)) []
 unfolding noticesAt nodeView
 notices-view m j = rw (notices-frames m (entryAt m j .pending) (4 * j))
-
-queue-filled : (m : Memory) (j : ℕ) → Sized m → j < 8 → entryAt m j .fill ≤ 4_096 → length (nodeView m j .queue) ≡ entryAt m j .fill
-unfolding nodeView
-queue-filled m j s h l = length-part (4_096 * j) (entryAt m j .fill) (m .queues) (omega (arith, s .queues))
 
 drop-touched : (m : Memory) (j : ℕ) → Sized m → j < 8 → Tidy m j
     → Touched m (withoutLosers m j) j (cond (discards (nodeView m j)) (withPending (nodeView m j) []) (nodeView m j))

@@ -3,8 +3,7 @@
 use mathlib.Core.Path.{_≡_, refl, sym, _∙_}
 use Prim.Native.Nat.{ℕ, zero, suc, _≤_, _<_}
 use native.Mathlib.Omega.{arith}
-use mathlib.Core.Bool.{Bool, true, false, cond, not, _&&_}
-use mathlib.Core.List.{List, []}
+use mathlib.Core.Bool.{true, false, _&&_}
 use lib.Dec.{leb, eqb}
 use lib.ListN.{length, getD, replicate, length-replicate, getD-replicate}
 use borrow.Author.Tests.{leb-true, eqb-true}
@@ -12,13 +11,12 @@ use Rattle.operation.proofs.Tests.{both}
 use Rattle.slots.specs.Slots.{freeSlot}
 use Rattle.slots.specs.declared.Slot.{Slot}
 use Rattle.plain_bus.specs.Held.{newNode, newBus}
-use Rattle.plain_bus.specs.Refusal.{badNodeCount}
-use Rattle.plain_bus.specs.Calls.{accepted, gives, refuses, start}
+use Rattle.plain_bus.specs.Calls.{accepted, gives, start}
 use Rattle.plain_bus.proofs.Kept.{start-valid}
 use Rattle.bus_state.specs.Memory.{Memory, noNode, slotAt, part, framesFrom, nodeView, nodesFrom, view}
 use Rattle.bus_model.specs.Primitives.{entryAt, newEntry, newState, startMemory}
-use Rattle.bus_model.specs.Calls.{answers, replies, refusing, lentWell, noStart, startIn}
-use Rattle.bus_model.specs.Refines.{Sized, TypedSlot, Refines}
+use Rattle.bus_model.specs.Calls.{answers, replies, lentWell, startIn}
+use Rattle.bus_model.specs.Refines.{Sized, Refines}
 use Rattle.bus_model.proofs.Buses.{view-is}
 use Rattle.bus_model.proofs.Validity.{Good}
 use Rattle.bus_model.proofs.Checked.{changed}

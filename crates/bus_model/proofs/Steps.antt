@@ -1,29 +1,28 @@
 -- Each step of a submitted buffer is that of the plain bus on the view.
 -- Assumes nothing.
 use mathlib.Core.Path.{_≡_, refl, sym, ap, _∙_, subst}
-use Prim.Native.Nat.{ℕ, zero, suc, _+_, _-_, _*_, _≤_, _<_}
+use Prim.Native.Nat.{ℕ, _+_, _-_, _*_, _≤_, _<_}
 use native.Mathlib.Omega.{arith}
-use mathlib.Core.Bool.{Bool, true, false, cond, not, _||_}
-use mathlib.Core.List.{List, [], _∷_, append-nil}
-use lib.Dec.{leb, ltb, eqb}
+use mathlib.Core.Bool.{Bool, true, false, cond, _||_}
+use mathlib.Core.List.{List, [], append-nil}
+use lib.Dec.{leb, eqb}
 use lib.ListN.{length, set, drop, length-append, length-drop}
 use lib.Seq.{take-length}
-use borrow.Author.Tests.{leb-true, leb-false, ltb-true, eqb-true, eqb-false}
+use borrow.Author.Tests.{leb-true, leb-false, eqb-true, eqb-false}
 use Rattle.operation.specs.Number.{Bytes}
 use Rattle.operation.specs.Format.{headLength, dataLength, header, encode, Typed}
 use Rattle.operation.specs.Rules.{legal}
 use Rattle.operation.specs.declared.Operation.{Operation}
 use Rattle.operation.specs.declared.Operation.the-variants.{FormatError, CanTransmit, FdTransmit, XlTransmit, Confirm, ArbitrationLost, BusError, Configuration, Status, Wakeup}
-use Rattle.operation.proofs.Tests.{false-is-true}
 use Rattle.decoder.specs.Stream.{Item, operation, fault, bytesOf}
 use Rattle.decoder.specs.Front.{decode}
 use Rattle.decoder.specs.declared.Front.the-variants.{Found}
 use Rattle.decoder.proofs.Found.{found}
-use Rattle.decoder.proofs.Decoded.{Back, decoded}
+use Rattle.decoder.proofs.Decoded.{decoded}
 use Rattle.slots.specs.Slots.{slotOf}
 use Rattle.plain_bus.specs.Kinds.{isTransmit}
 use Rattle.plain_bus.specs.Held.{Node, queueCapacity, busOff, isOff, withStatus, withBehaviour, withRates, withQueue, withNode, withNodes, eachNode, allHaveRoom, enqueue}
-use Rattle.plain_bus.specs.Refusal.{Refusal, fourPending, queueFull}
+use Rattle.plain_bus.specs.Refusal.{fourPending, queueFull}
 use Rattle.plain_bus.specs.Submit.{Step, done, fails, accept, takeTransmit, configure, cleared, setStatus, wakeupFor, wake, takeWakeup, formatError, answerFormatError, unanswered, takeItem}
 use Rattle.plain_bus.specs.Valid.{ReadsWhole, ValidNode}
 use Rattle.plain_bus.proofs.Codec.{reads-format-error, reads-wakeup}
@@ -31,16 +30,17 @@ use Rattle.plain_bus.proofs.Whole.{ValidItem}
 use Rattle.plain_bus.proofs.Changes.{joined, configured, statusSet, answered}
 use Rattle.plain_bus.proofs.Validity.{change-valid}
 use Rattle.bus_state.specs.Memory.{Memory, slotAt, part, framesFrom, nodeView, view}
-use Rattle.bus_model.specs.Primitives.{entryAt, offAt, entryStatus, entryBehaviour, entryRates, setEntry, fillSlot, nextSlot, putFrame, append, clearNode, inTurn}
+use Rattle.bus_model.specs.Primitives.{entryAt, offAt, entryBehaviour, entryRates, setEntry, fillSlot, nextSlot, putFrame, append, clearNode, inTurn}
 use Rattle.bus_model.specs.Submit.{Progress, goesOn, stops, roomAt, transmitIn, configureIn, statusOf, statusIn, wakeupAt, wakeAt, wakeupIn, answerIn, itemIn}
 use Rattle.bus_model.specs.Refines.{Sized, TypedSlot}
 use Rattle.bus_model.proofs.Writes.{Same}
 use Rattle.bus_model.proofs.Views.{same-view, entryView, length-frames}
-use Rattle.bus_model.proofs.Frames.{slot-signed, put-view, put-others, put-sized, put-entry, put-slot, put-slots}
+use Rattle.bus_model.proofs.Puts.{slot-signed, put-view, put-others, put-sized, put-entry, put-slot, put-slots}
 use Rattle.bus_model.proofs.Lawful.{transmit-short}
 use Rattle.bus_model.proofs.Buses.{view-length, view-at, view-round}
 use Rattle.bus_model.proofs.Validity.{Good, good-node, good-number, good-fits, queue-length}
-use Rattle.bus_model.proofs.Touched.{same-tidy, good-tidy, Touched, touched-view, touched-good, touched-trans, touched-as, untouched, valid-set, valid-each, entry-touched, append-touched, in-turn, going-view, going-good, room-view, room-one}
+use Rattle.bus_model.proofs.Touched.{same-tidy, good-tidy, Touched, touched-view, touched-good, touched-trans, touched-as, untouched, valid-set, valid-each, entry-touched, append-touched}
+use Rattle.bus_model.proofs.Turns.{in-turn, going-view, going-good, room-view, room-one}
 
 -- a step on the memory and one on the plain bus: both done, with this node count, or both failed alike
 abbrev pub Agrees : ℕ → Progress → Step → Type 0

@@ -1,32 +1,32 @@
 -- Validity as the test decides it, and of the view: both ways. `Good` is what every step of a call keeps.
 -- Assumes nothing.
-use mathlib.Core.Path.{_≡_, refl, sym, ap, _∙_, subst}
+use mathlib.Core.Path.{_≡_, refl, sym, ap, _∙_}
 use Prim.Native.Nat.{ℕ, zero, suc, _+_, _*_, _≤_, _<_}
 use native.Mathlib.Omega.{arith}
 use native.Mathlib.Nat.{add-zero, zero-add}
-use mathlib.Core.Bool.{Bool, true, false, not, _&&_, _||_}
+use mathlib.Core.Bool.{Bool, true, false, not, _||_}
 use mathlib.Core.List.{List, [], _∷_}
 use lib.Dec.{leb, eqb}
-use lib.ListN.{length, getD}
+use lib.ListN.{length}
 use borrow.Author.Tests.{leb-true, eqb-true, le-leb, eq-eqb}
 use Rattle.operation.specs.Format.{dataLength}
 use Rattle.operation.specs.Rules.{oneOf, statuses, behaviours}
 use Rattle.operation.proofs.Tests.{false-is-true, both}
-use Rattle.slots.specs.Slots.{freeSlot, contentOf, legalContent}
+use Rattle.slots.specs.Slots.{contentOf, legalContent}
 use Rattle.slots.specs.declared.Slot.{Slot}
-use Rattle.plain_bus.specs.Held.{Frame, Node, Bus, busOff, isOff, nodeAt}
+use Rattle.plain_bus.specs.Held.{Node, busOff}
 use Rattle.plain_bus.specs.Valid.{ValidFrame, ValidFrames, NonZero, ValidNode, Valid}
 use Rattle.plain_bus.proofs.Validity.{frame-legal}
-use Rattle.bus_state.specs.Memory.{Memory, nodeState, slotAt, heldIn, operationAt, frameAt, framesFrom, nodeView, view}
+use Rattle.bus_state.specs.Memory.{Memory, nodeState, slotAt, operationAt, frameAt, framesFrom, nodeView, view}
 use Rattle.bus_state.specs.Valid.{validSlot, validSlots, nonZero, validEntry, validNode, validNodes, validState}
 use Rattle.bus_state.specs.declared.State.{State}
 use Rattle.bus_state.specs.declared.NodeState.{NodeState}
 use Rattle.bus_model.specs.Primitives.{entryAt}
-use Rattle.bus_model.specs.Refines.{Sized, TypedSlot, Typed}
+use Rattle.bus_model.specs.Refines.{Typed}
 use Rattle.bus_model.proofs.Offsets.{length-part}
-use Rattle.bus_model.proofs.Views.{Fits, length-frames}
+use Rattle.bus_model.proofs.Views.{Fits, length-frames, queue-filled}
 use Rattle.bus_model.proofs.Buses.{view-length, view-at, view-round}
-use Rattle.bus_model.proofs.Lawful.{Lawful, slot-lawful, content-legal, lawful-reads, transmit-short}
+use Rattle.bus_model.proofs.Lawful.{slot-lawful, content-legal, lawful-reads, transmit-short}
 
 -- the slots of node j's frames name it as their owner
 abbrev pub Owned : Memory → ℕ → Type 0
@@ -292,6 +292,4 @@ module _ (m : Memory) (g : Good m) (j : ℕ) (h : j < m .state .count) where
   good-fits = fits-from m j (m .state .round) (nodeView m j) refl good-node (g .fill j h)
 
   pub queue-length : length (nodeView m j .queue) ≡ entryAt m j .fill
-  unfolding nodeView
-  queue-length =
-      length-part (4_096 * j) (entryAt m j .fill) (m .queues) (omega (arith, g .fill j h, good-number, g .typed .sized .queues))
+  queue-length = queue-filled m j (g .typed .sized) good-number (g .fill j h)

@@ -1,28 +1,19 @@
--- What the view says of a node after each of the changes that the calls are made of: at the node touched, and at every other.
+-- What the view says of a node after its entry is set and its queue is added to, and of one of which nothing changes.
 -- Assumes nothing.
-use mathlib.Core.Path.{_≡_, refl, sym, ap, _∙_}
-use Prim.Native.Nat.{ℕ, zero, suc, _+_, _-_, _*_, _≤_, _<_}
+use mathlib.Core.Path.{_≡_, refl, ap, _∙_}
+use Prim.Native.Nat.{ℕ, zero, suc, _+_, _*_, _≤_, _<_}
 use native.Mathlib.Omega.{arith}
 use native.Mathlib.Nat.{add-zero}
-use mathlib.Core.Bool.{Bool, true, false}
 use mathlib.Core.List.{List, [], _∷_, _++_}
 use lib.ListN.{length}
-use Rattle.operation.specs.Format.{dataLength, encode}
-use Rattle.operation.specs.declared.Operation.{Operation}
-use Rattle.operation.specs.declared.Operation.the-variants.{FormatError, CanTransmit, FdTransmit, XlTransmit, Confirm, ArbitrationLost, BusError, Configuration, Status, Wakeup}
-use Rattle.operation.proofs.Tests.{false-is-true}
-use Rattle.slots.specs.Slots.{contentOf, slotOf}
-use Rattle.slots.specs.declared.Slot.{Slot}
-use Rattle.plain_bus.specs.Kinds.{isTransmit}
-use Rattle.plain_bus.specs.Held.{Frame, Node, withPending, withQueue, enqueue}
-use Rattle.plain_bus.specs.Submit.{accept, cleared}
-use Rattle.plain_bus.specs.Round.{without}
-use Rattle.bus_state.specs.Memory.{Memory, heldIn, operationAt, dataAtSlot, slotAt, part, frameAt, framesFrom, nodeView}
+use Rattle.operation.specs.Format.{dataLength}
+use Rattle.plain_bus.specs.Held.{Node, enqueue}
+use Rattle.bus_state.specs.Memory.{Memory, operationAt, dataAtSlot, slotAt, part, frameAt, framesFrom, nodeView}
 use Rattle.bus_state.specs.declared.NodeState.{NodeState}
-use Rattle.bus_model.specs.Primitives.{entryAt, setEntry, layQueue, fillSlot, nextSlot, putFrame, append, dropFrames, emptyQueue, clearNode, moveDown, removeFrame}
+use Rattle.bus_model.specs.Primitives.{entryAt, setEntry, layQueue, append}
 use Rattle.bus_model.specs.Refines.{Sized}
-use Rattle.bus_model.proofs.Offsets.{over-grown}
-use Rattle.bus_model.proofs.Writes.{Same, same-trans, entry-own, entry-others, entry-sized, slot-own, slot-other, bytes-own, bytes-other, slot-sized, queue-others, queue-sized}
+use Rattle.bus_model.proofs.Offsets.{length-part, over-grown}
+use Rattle.bus_model.proofs.Writes.{Same, same-trans, entry-own, entry-others, entry-sized, queue-others, queue-sized}
 
 -- a node's frames and its queue are no more than its part of the memory
 pub record Fits (m : Memory) (j : ℕ) : Type 0 where
@@ -106,19 +97,11 @@ unfolding nodeView entryView setEntry
 entry-view m j d h =
     rw (entry-own m j d h, frames-moved m (setEntry m j d) (4 * j) (4 * j) (d .pending) (λ i l. record { slot = refl; bytes = refl }))
 
-pub empty-view : (m : Memory) (j : ℕ) → j < length (m .state .nodes) → nodeView (emptyQueue m j) j ≡ withQueue (nodeView m j) []
-unfolding nodeView entryView emptyQueue part
-empty-view m j h = entry-view m j _ h
+-- ---- a queue
 
-pub drop-view : (m : Memory) (j : ℕ) → j < length (m .state .nodes) → nodeView (dropFrames m j) j ≡ withPending (nodeView m j) []
-unfolding nodeView entryView dropFrames framesFrom
-drop-view m j h = entry-view m j _ h
-
-pub clear-view : (m : Memory) (j : ℕ) → j < length (m .state .nodes) → nodeView (clearNode m j) j ≡ cleared (nodeView m j)
-unfolding nodeView entryView clearNode framesFrom part
-clear-view m j h = entry-view m j _ h
-
--- ---- a queue that is added to
+pub queue-filled : (m : Memory) (j : ℕ) → Sized m → j < 8 → entryAt m j .fill ≤ 4_096 → length (nodeView m j .queue) ≡ entryAt m j .fill
+unfolding nodeView
+queue-filled m j s h l = length-part (4_096 * j) (entryAt m j .fill) (m .queues) (omega (arith, s .queues))
 
 module _ (m : Memory) (j : ℕ) (bytes : List ℕ) (s : Sized m) (h : j < 8) (l : entryAt m j .fill + length bytes ≤ 4_096) where
   pub append-view : nodeView (append m j bytes) j ≡ enqueue (nodeView m j) bytes

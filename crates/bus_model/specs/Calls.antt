@@ -1,7 +1,7 @@
 -- The calls on the state and the lent memory: refusals 1 and 3, then those of the plain call in its order (01, "Numbers that calls
 -- answer with"). A refusal hands back the memory as it was; a refused start a state of node count 0.
 -- Assumes nothing.
-use Prim.Native.Nat.{ℕ, _+_, _-_, _*_}
+use Prim.Native.Nat.{ℕ, _-_, _*_}
 use mathlib.Core.List.{List}
 use mathlib.Core.Bool.{Bool, false, cond, not, _&&_, _||_}
 use lib.Dec.{leb, ltb, eqb}
@@ -11,7 +11,7 @@ use Rattle.encoder.specs.Writing.{over}
 use Rattle.decoder.specs.Stream.{itemsOf}
 use Rattle.plain_bus.specs.Held.{lastRound}
 use Rattle.plain_bus.specs.Refusal.{Refusal, badNodeCount, invalid, notAttached, bufferTooLong, badInjection, queueFull, roundsUsedUp, roomTooSmall}
-use Rattle.plain_bus.specs.Order.{Entry, Winner, nobody, wins}
+use Rattle.plain_bus.specs.Order.{Winner, nobody, wins}
 use Rattle.plain_bus.specs.Round.{Injection, noError, injected, isErrored, winnerId}
 use Rattle.plain_bus.specs.Calls.{Answer, refused, accepted, idle, carried, collected, answerNumber, maxSubmit}
 use Rattle.bus_state.specs.Memory.{Memory, slotCount, payloadBytes, queueBytes, bytesPerQueue, part}
