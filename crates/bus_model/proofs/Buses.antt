@@ -6,10 +6,10 @@ use native.Mathlib.Omega.{arith}
 use native.Mathlib.Nat.{add-zero, zero-add}
 use lib.ListN.{length, getD, length-set}
 use lib.Seq.{ext-getD, getD-set-same, getD-set-other}
-use Rattle.plain_bus.specs.Held.{Frame, Node, Bus, newNode, nodeAt, withNode, withNodes, eachNode}
+use Rattle.plain_bus.specs.Held.{Node, Bus, newNode, nodeAt, withNode, withNodes, eachNode}
 use Rattle.plain_bus.proofs.Nodes.{length-each, each-at}
 use Rattle.plain_bus.proofs.Kept.{by-number}
-use Rattle.bus_state.specs.Memory.{Memory, nodeView, nodesFrom, view, frameAt, framesFrom}
+use Rattle.bus_state.specs.Memory.{Memory, nodeView, nodesFrom, view}
 
 length-nodes : (m : Memory) (j n : ℕ) → length (nodesFrom m j n) ≡ n
 unfolding nodesFrom
@@ -65,12 +65,3 @@ view-each m m′ f c r g =
     (view-round m ∙ sym r)
     (λ i l. let l′ : i < m .state .count = rw c at l in
     g i l′ ∙ sym (each-at f (view m .nodes) i (rw (view-length m) l′) ∙ ap (f i) (view-at m i l′)))
-
--- the frames of a node by position
-pub frames-at : (m : Memory) (p n i : ℕ) (f : Frame) → i < n → getD (framesFrom m p n) i f ≡ frameAt m (p + i)
-unfolding framesFrom
-frames-at m p zero i f h = absurd (omega arith)
-frames-at m p (suc n) zero f h = rw add-zero
-frames-at m p (suc n) (suc i) f h =
-    let e : suc p + i ≡ p + suc i = omega arith in
-    frames-at m (suc p) n i f (omega arith) ∙ ap (frameAt m) e

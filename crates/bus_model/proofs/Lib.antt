@@ -16,3 +16,4 @@ pub mod Submit
 pub mod Winner
 pub mod Settle
 pub mod Round
+pub mod Refused

@@ -1,9 +1,9 @@
 -- Parts of a list by offsets, after bytes were laid over it: there, before, behind, and across the end of what was there.
 -- Assumes nothing.
-use mathlib.Core.Path.{_≡_, refl, sym, ap, _∙_}
+use mathlib.Core.Path.{_≡_, sym, ap, _∙_}
 use Prim.Native.Nat.{ℕ, _+_, _-_, _≤_}
 use native.Mathlib.Omega.{arith}
-use mathlib.Core.List.{List, [], _++_, append-assoc}
+use mathlib.Core.List.{List, _++_, append-assoc}
 use lib.ListN.{length, take, drop, length-append, length-take, length-drop, take-append-drop}
 use lib.Seq.{take-append-seam, drop-at, take-append-le, drop-append-le, drop-append-add, drop-drop, length-take-le, take-add}
 use Rattle.encoder.specs.Writing.{over}
@@ -13,11 +13,7 @@ pub length-part : (at n : ℕ) (l : List ℕ) → at + n ≤ length l → length
 unfolding part
 length-part at n l h = length-take-le n (drop at l) (rw length-drop (omega arith))
 
-pub part-none : (at : ℕ) (l : List ℕ) → part at 0 l ≡ []
-unfolding part
-part-none at l = refl
-
-pub part-add : (at n k : ℕ) (l : List ℕ) → part at (n + k) l ≡ part at n l ++ part (at + n) k l
+part-add : (at n k : ℕ) (l : List ℕ) → part at (n + k) l ≡ part at n l ++ part (at + n) k l
 unfolding part
 part-add at n k l = rw (take-add n k (drop at l), drop-drop n at l)
 

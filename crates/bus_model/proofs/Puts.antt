@@ -23,7 +23,7 @@ use Rattle.bus_model.proofs.Views.{Fits, Moved, frames-moved, frames-sn
 
 -- ---- the slot of a Transmit
 
-pub slot-content : (op : Operation) (owner accepted : ℕ) → isTransmit op ≡ true → contentOf (slotOf op owner accepted) ≡ Transmit op
+slot-content : (op : Operation) (owner accepted : ℕ) → isTransmit op ≡ true → contentOf (slotOf op owner accepted) ≡ Transmit op
 unfolding contentOf slotOf
 slot-content (FormatError n) owner accepted t = false-is-true t
 slot-content (CanTransmit id ide rtr dl) owner accepted t = refl

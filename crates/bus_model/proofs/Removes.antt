@@ -22,18 +22,18 @@ use Rattle.bus_model.proofs.Writes.{Same, same-trans, entry-own, entry-
 use Rattle.bus_model.proofs.Views.{Fits, Moved, frame-moved, frames-moved, entryView, entry-view}
 
 -- ---- frames are moved down
-pub moved-trans : {m m′ m″ : Memory} {p p′ p″ : ℕ} → Moved m m′ p p′ → Moved m′ m″ p′ p″ → Moved m m″ p p″
+moved-trans : {m m′ m″ : Memory} {p p′ p″ : ℕ} → Moved m m′ p p′ → Moved m′ m″ p′ p″ → Moved m m″ p p″
 moved-trans v w = record { slot = w .slot ∙ v .slot; bytes = rw (v .slot) at (w .bytes) ∙ v .bytes }
 
 -- the frames of the n slots after p stand one lower; every other slot is as it was
-pub record Down (m m′ : Memory) (p n : ℕ) : Type 0 where
-  pub sized : Sized m′
-  pub state : m′ .state ≡ m .state
-  pub queues : m′ .queues ≡ m .queues
-  pub slot : (r : ℕ) → ((i : ℕ) → i < n → r ≡ p + i → ⊥) → slotAt m′ r ≡ slotAt m r
-  pub bytes : (r k : ℕ) → ((i : ℕ) → i < n → r ≡ p + i → ⊥) → k ≤ 2_048
+record Down (m m′ : Memory) (p n : ℕ) : Type 0 where
+  sized : Sized m′
+  state : m′ .state ≡ m .state
+  queues : m′ .queues ≡ m .queues
+  slot : (r : ℕ) → ((i : ℕ) → i < n → r ≡ p + i → ⊥) → slotAt m′ r ≡ slotAt m r
+  bytes : (r k : ℕ) → ((i : ℕ) → i < n → r ≡ p + i → ⊥) → k ≤ 2_048
       → part (2_048 * r) k (m′ .payload) ≡ part (2_048 * r) k (m .payload)
-  pub down : (i : ℕ) → i < n → Moved m m′ (suc p + i) (p + i)
+  down : (i : ℕ) → i < n → Moved m m′ (suc p + i) (p + i)
 
 -- the frame of slot p + 1 to slot p
 abbrev oneDown : Memory → ℕ → Memory
@@ -98,7 +98,7 @@ module _ (m : Memory) (p : ℕ) (s : Sized m) (h : suc p < 32) (f : dataLength (
           let e′ : suc p + i ≡ p + suc i = omega arith in
           rw (← e, ← e′) (moved-trans (still (suc (suc p) + i) (λ q. omega arith) (rw e (g (suc i) l))) (d .down i (omega arith)))
 
-pub moves-down : (n : ℕ) (m : Memory) (p : ℕ) → Sized m → p + n < 32
+moves-down : (n : ℕ) (m : Memory) (p : ℕ) → Sized m → p + n < 32
     → ((i : ℕ) → i < n → dataLength (operationAt m (suc p + i)) ≤ 2_048) → Down m (moveDown m p n) p n
 unfolding moveDown
 moves-down zero m p s h f = record {

@@ -69,7 +69,7 @@ same-fits {m} {m′} {i} s f = record {
   short = λ q h. let h′ : q < entryAt m i .pending = rw (s .entry) at h in rw (s .slot q (omega (arith, f .few))) (f .short q h′);
 }
 
-pub same-moved : {m m′ : Memory} {i : ℕ} → Same m m′ i → Fits m i → (q : ℕ) → q < entryAt m i .pending
+same-moved : {m m′ : Memory} {i : ℕ} → Same m m′ i → Fits m i → (q : ℕ) → q < entryAt m i .pending
     → Moved m m′ (4 * i + q) (4 * i + q)
 same-moved {m} {m′} {i} s f q h =
     let h′ : q < 4 = omega (arith, f .few) in

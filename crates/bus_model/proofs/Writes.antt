@@ -38,7 +38,7 @@ same-trans s t = record {
 }
 
 -- bytes laid into block p do not touch block r
-pub block-apart : (size p r at n : ℕ) (xs l : List ℕ) → (r ≡ p → ⊥) → size * p ≤ at → at + length xs ≤ size * p + size
+block-apart : (size p r at n : ℕ) (xs l : List ℕ) → (r ≡ p → ⊥) → size * p ≤ at → at + length xs ≤ size * p + size
     → at + length xs ≤ length l → n ≤ size → (r < p → size * r + size ≤ size * p) → (p < r → size * p + size ≤ size * r)
     → part (size * r) n (over l at xs) ≡ part (size * r) n l
 block-apart size p r at n xs l other low high h small before behind = go (ltb r p) refl

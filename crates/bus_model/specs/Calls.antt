@@ -13,7 +13,7 @@ use Rattle.plain_bus.specs.Held.{lastRound}
 use Rattle.plain_bus.specs.Refusal.{Refusal, badNodeCount, invalid, notAttached, bufferTooLong, badInjection, queueFull, roundsUsedUp, roomTooSmall}
 use Rattle.plain_bus.specs.Order.{Winner, nobody, wins}
 use Rattle.plain_bus.specs.Round.{Injection, noError, injected, isErrored, winnerId}
-use Rattle.plain_bus.specs.Calls.{Answer, refused, accepted, idle, carried, collected, answerNumber, maxSubmit}
+use Rattle.plain_bus.specs.Calls.{Answer, refused, accepted, idle, carried, collected, isDone, answerNumber, maxSubmit}
 use Rattle.bus_state.specs.Memory.{Memory, slotCount, payloadBytes, queueBytes, bytesPerQueue, part}
 use Rattle.bus_state.specs.Valid.{validState}
 use Rattle.bus_model.specs.Primitives.{entryAt, offAt, withState, emptyQueue, newState, startMemory}
@@ -28,6 +28,10 @@ pub data Reply : Type 0 where
 abbrev pub replyNumber : Reply → ℕ
 replyNumber wrongMemory = 1
 replyNumber (answers a) = answerNumber a
+
+abbrev pub replyDone : Reply → Bool
+replyDone wrongMemory = false
+replyDone (answers a) = isDone a
 
 pub record Result : Type 0 where
   pub reply : Reply
