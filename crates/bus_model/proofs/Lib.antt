@@ -17,3 +17,4 @@ pub mod Winner
 pub mod Settle
 pub mod Round
 pub mod Refused
+pub mod Session

@@ -2,7 +2,7 @@
 -- and no queue byte; refusals 1 and 3 are given before any other.
 -- Assumes nothing.
 use mathlib.Core.Path.{_≡_, refl}
-use Prim.Native.Nat.{ℕ, _-_}
+use Prim.Native.Nat.{ℕ}
 use native.Mathlib.Omega.{arith}
 use mathlib.Core.Bool.{Bool, true, false, cond, not, _&&_}
 use mathlib.Core.List.{List}
@@ -65,19 +65,19 @@ pub round-kept : (m : Memory) (e : Injection) → Kept m (roundIn m e)
 unfolding roundIn rounded arbitrateIn
 round-kept m e = checked-kept m (rounded m e) (go (wrongInjectionIn m e) (winnerIn m))
   where
-    won : (w : Entry) (a b : Bool)
+    won : (w : Entry) (age : ℕ) (a b : Bool)
         → Kept m
         (cond (not a) (refusing queueFull m)
         (cond b (refusing roundsUsedUp m)
-        (replies (carried (w .owner) (winnerId w) (isErrored e) (m .state .round - w .frame .accepted)) (afterRoundIn e w m))))
-    won w false b = λ e. refl
-    won w true true = λ e. refl
-    won w true false = λ e. done-kept e
+        (replies (carried (w .owner) (winnerId w) (isErrored e) age) (afterRoundIn e w m))))
+    won w age false b = λ e. refl
+    won w age true true = λ e. refl
+    won w age true false = λ e. done-kept e
 
     go : (a : Bool) (x : Winner) → Kept m (cond a (refusing badInjection m) (arbitrateIn m e x))
     go true x = λ e. refl
     go false nobody = λ e. refl
-    go false (wins w) = won w (roomForEach (owedAt e w m) m 0 (m .state .count)) (leb lastRound (m .state .round))
+    go false (wins w) = won w _ (roomForEach (owedAt e w m) m 0 (m .state .count)) (leb lastRound (m .state .round))
 
 pub collect-kept : (m : Memory) (k room : ℕ) → Kept m (collectIn m k room)
 unfolding collectIn collection

@@ -3,3 +3,4 @@ pub mod Submit
 pub mod Round
 pub mod Calls
 pub mod Refines
+pub mod Session
