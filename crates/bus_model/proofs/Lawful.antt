@@ -13,17 +13,14 @@ use Rattle.operation.specs.Format.{headLength, dataLength, lengthOf, encode, Ty
 use Rattle.operation.specs.Rules.{oneOf, maxId, fdLength, rules, legal}
 use Rattle.operation.specs.declared.Operation.{Operation}
 use Rattle.operation.specs.declared.Operation.the-variants.{FormatError, CanTransmit, FdTransmit, XlTransmit, Confirm, ArbitrationLost, BusError, Configuration, Status, Wakeup}
-use Rattle.operation.proofs.Sizes.{encode-length}
 use Rattle.operation.proofs.Tests.{false-is-true, both, passed}
-use Rattle.decoder.specs.Front.{front}
-use Rattle.decoder.specs.declared.Front.the-variants.{Found}
-use Rattle.decoder.proofs.Encoded.{encoded}
 use Rattle.slots.specs.Slots.{contentOf, legalContent}
 use Rattle.slots.specs.declared.Slot.{Slot}
 use Rattle.slots.specs.declared.Content.{Content}
 use Rattle.slots.specs.declared.Content.the-variants.{Free, Transmit}
 use Rattle.plain_bus.specs.Kinds.{isTransmit}
 use Rattle.plain_bus.specs.Valid.{ReadsWhole}
+use Rattle.plain_bus.proofs.Codec.{reads-written}
 use Rattle.bus_state.specs.Memory.{heldIn}
 use Rattle.bus_model.specs.Refines.{TypedSlot}
 
@@ -140,9 +137,4 @@ content-legal (Transmit op) t l = l
 -- ---- its bytes
 
 pub lawful-reads : (op : Operation) (payload : List ℕ) → Lawful op → length payload ≡ dataLength op → ReadsWhole op (encode op payload)
-lawful-reads op payload l p =
-    let size : length (encode op payload) ≡ lengthOf op =
-    encode-length op payload (l .lawful) ∙ ap (λ (n : ℕ). headLength op + n) p in
-    ap front (sym (append-nil (encode op payload)))
-    ∙ encoded op payload [] (l .typed) (l .lawful) p (omega (arith, l .short))
-    ∙ ap (Found op) (sym size)
+lawful-reads op payload l p = reads-written op payload (l .typed) (l .lawful) p (omega (arith, l .short))

@@ -20,19 +20,19 @@ use Rattle.decoder.proofs.Encoded.{encoded}
 use Rattle.plain_bus.specs.Valid.{ReadsWhole}
 use Rattle.plain_bus.specs.Register.{noneAbove}
 
-written : (op : Operation) (payload : List ℕ) → Typed op → legal op ≡ true → length payload ≡ dataLength op
+pub reads-written : (op : Operation) (payload : List ℕ) → Typed op → legal op ≡ true → length payload ≡ dataLength op
     → dataLength op < 65_536 → ReadsWhole op (encode op payload)
-written op payload ty l p small =
+reads-written op payload ty l p small =
     let size : length (encode op payload) ≡ lengthOf op = encode-length op payload l ∙ ap (λ (n : ℕ). headLength op + n) p in
     ap front (sym (append-nil (encode op payload))) ∙ encoded op payload [] ty l p small ∙ ap (Found op) (sym size)
 
 pub reads-confirm : (id : ℕ) → id ≤ maxExtendedId → ReadsWhole (Confirm id) (encode (Confirm id) [])
 unfolding legal rules allAfter
-reads-confirm id h = written (Confirm id) [] (omega arith) (le-leb id maxExtendedId h) refl (lit< tt)
+reads-confirm id h = reads-written (Confirm id) [] (omega arith) (le-leb id maxExtendedId h) refl (lit< tt)
 
 pub reads-lost : (id : ℕ) → id ≤ maxExtendedId → ReadsWhole (ArbitrationLost id) (encode (ArbitrationLost id) [])
 unfolding legal rules allAfter
-reads-lost id h = written (ArbitrationLost id) [] (omega arith) (le-leb id maxExtendedId h) refl (lit< tt)
+reads-lost id h = reads-written (ArbitrationLost id) [] (omega arith) (le-leb id maxExtendedId h) refl (lit< tt)
 
 -- one of some numbers is no higher than they are
 one-low : (x m : ℕ) (ys : List ℕ) → oneOf x ys ≡ true → noneAbove m ys ≡ true → x ≤ m
@@ -53,13 +53,13 @@ reads-bus-error id code flag sender l =
     let b = one-low code 6 errorCodes (passed _ l 1) refl in
     let c = one-low flag 2 errorFlags (passed _ l 2) refl in
     let d = leb-true sender 1 (passed _ l 3) in
-    written (BusError id code flag sender) [] (omega arith) l refl (lit< tt)
+    reads-written (BusError id code flag sender) [] (omega arith) l refl (lit< tt)
 
 pub reads-format-error : (bytes : List ℕ) → length bytes < 65_536
     → ReadsWhole (FormatError (length bytes)) (encode (FormatError (length bytes)) bytes)
 unfolding legal rules allAfter
-reads-format-error bytes h = written (FormatError (length bytes)) bytes h refl refl h
+reads-format-error bytes h = reads-written (FormatError (length bytes)) bytes h refl refl h
 
 pub reads-wakeup : ReadsWhole Wakeup (encode Wakeup [])
 unfolding legal rules allAfter
-reads-wakeup = written Wakeup [] tt refl refl (lit< tt)
+reads-wakeup = reads-written Wakeup [] tt refl refl (lit< tt)
