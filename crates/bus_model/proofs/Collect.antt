@@ -13,7 +13,8 @@ use Rattle.plain_bus.specs.Refusal.{notAttached, roomTooSmall}
 use Rattle.plain_bus.specs.Calls.{refused, collected, gives, refuses, collect}
 use Rattle.plain_bus.proofs.Changes.{collected}
 use Rattle.plain_bus.proofs.Validity.{change-valid}
-use Rattle.bus_state.specs.Memory.{Memory, part, nodeView, view}
+use Rattle.buffers.specs.Parts.{part}
+use Rattle.bus_state.specs.Memory.{Memory, nodeView, view}
 use Rattle.bus_state.specs.Valid.{validState}
 use Rattle.bus_model.specs.Primitives.{entryAt, emptyQueue}
 use Rattle.bus_model.specs.Calls.{replies, refusing, queueAt, collection, collectIn}

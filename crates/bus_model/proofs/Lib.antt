@@ -1,4 +1,3 @@
-pub mod Offsets
 pub mod Writes
 pub mod Views
 pub mod Puts

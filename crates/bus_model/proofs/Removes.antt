@@ -13,11 +13,12 @@ use Rattle.operation.specs.Format.{dataLength}
 use Rattle.slots.specs.declared.Slot.{Slot}
 use Rattle.plain_bus.specs.Held.{withPending}
 use Rattle.plain_bus.specs.Round.{without}
-use Rattle.bus_state.specs.Memory.{Memory, operationAt, dataAtSlot, slotAt, part, frameAt, framesFrom, nodeView}
+use Rattle.buffers.specs.Parts.{part}
+use Rattle.bus_state.specs.Memory.{Memory, operationAt, dataAtSlot, slotAt, frameAt, framesFrom, nodeView}
 use Rattle.bus_state.specs.declared.State.{State}
 use Rattle.bus_model.specs.Primitives.{entryAt, entryPending, setEntry, fillSlot, moveDown, removeFrame}
 use Rattle.bus_model.specs.Refines.{Sized}
-use Rattle.bus_model.proofs.Offsets.{length-part}
+use Rattle.buffers.proofs.Offsets.{length-part}
 use Rattle.bus_model.proofs.Writes.{Same, same-trans, entry-own, entry-others, entry-sized, slot-own, slot-other, bytes-own, bytes-other, slot-sized}
 use Rattle.bus_model.proofs.Views.{Fits, Moved, frame-moved, frames-moved, entryView, entry-view}
 

@@ -13,7 +13,8 @@ use Rattle.slots.specs.declared.Slot.{Slot}
 use Rattle.plain_bus.specs.Held.{newNode, newBus}
 use Rattle.plain_bus.specs.Calls.{accepted, gives, start}
 use Rattle.plain_bus.proofs.Kept.{start-valid}
-use Rattle.bus_state.specs.Memory.{Memory, noNode, slotAt, part, framesFrom, nodeView, nodesFrom, view}
+use Rattle.buffers.specs.Parts.{part}
+use Rattle.bus_state.specs.Memory.{Memory, noNode, slotAt, framesFrom, nodeView, nodesFrom, view}
 use Rattle.bus_model.specs.Primitives.{entryAt, newEntry, newState, startMemory}
 use Rattle.bus_model.specs.Calls.{answers, replies, lentWell, startIn}
 use Rattle.bus_model.specs.Refines.{Sized, Refines}

@@ -29,7 +29,8 @@ use Rattle.plain_bus.proofs.Codec.{reads-format-error, reads-wakeup}
 use Rattle.plain_bus.proofs.Whole.{ValidItem}
 use Rattle.plain_bus.proofs.Changes.{joined, configured, statusSet, answered}
 use Rattle.plain_bus.proofs.Validity.{change-valid}
-use Rattle.bus_state.specs.Memory.{Memory, slotAt, part, framesFrom, nodeView, view}
+use Rattle.buffers.specs.Parts.{part}
+use Rattle.bus_state.specs.Memory.{Memory, slotAt, framesFrom, nodeView, view}
 use Rattle.bus_model.specs.Primitives.{entryAt, offAt, entryBehaviour, entryRates, setEntry, fillSlot, nextSlot, putFrame, append, clearNode, inTurn}
 use Rattle.bus_model.specs.Submit.{Progress, goesOn, stops, roomAt, transmitIn, configureIn, statusOf, statusIn, wakeupAt, wakeAt, wakeupIn, answerIn, itemIn}
 use Rattle.bus_model.specs.Refines.{Sized, TypedSlot}

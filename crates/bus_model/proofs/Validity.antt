@@ -23,7 +23,7 @@ use Rattle.bus_state.specs.declared.State.{State}
 use Rattle.bus_state.specs.declared.NodeState.{NodeState}
 use Rattle.bus_model.specs.Primitives.{entryAt}
 use Rattle.bus_model.specs.Refines.{Typed}
-use Rattle.bus_model.proofs.Offsets.{length-part}
+use Rattle.buffers.proofs.Offsets.{length-part}
 use Rattle.bus_model.proofs.Views.{Fits, length-frames, queue-filled}
 use Rattle.bus_model.proofs.Buses.{view-length, view-at, view-round}
 use Rattle.bus_model.proofs.Lawful.{slot-lawful, content-legal, lawful-reads, transmit-short}

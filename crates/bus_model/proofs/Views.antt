@@ -8,11 +8,12 @@ use mathlib.Core.List.{List, [], _∷_, _++_}
 use lib.ListN.{length}
 use Rattle.operation.specs.Format.{dataLength}
 use Rattle.plain_bus.specs.Held.{Node, enqueue}
-use Rattle.bus_state.specs.Memory.{Memory, operationAt, dataAtSlot, slotAt, part, frameAt, framesFrom, nodeView}
+use Rattle.buffers.specs.Parts.{part}
+use Rattle.bus_state.specs.Memory.{Memory, operationAt, dataAtSlot, slotAt, frameAt, framesFrom, nodeView}
 use Rattle.bus_state.specs.declared.NodeState.{NodeState}
 use Rattle.bus_model.specs.Primitives.{entryAt, setEntry, layQueue, append}
 use Rattle.bus_model.specs.Refines.{Sized}
-use Rattle.bus_model.proofs.Offsets.{length-part, over-grown}
+use Rattle.buffers.proofs.Offsets.{length-part, over-grown}
 use Rattle.bus_model.proofs.Writes.{Same, same-trans, entry-own, entry-others, entry-sized, queue-others, queue-sized}
 
 -- a node's frames and its queue are no more than its part of the memory

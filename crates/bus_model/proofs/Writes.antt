@@ -9,14 +9,14 @@ use lib.Dec.{ltb}
 use lib.ListN.{length, length-set}
 use lib.Seq.{getD-set-same, getD-set-other}
 use borrow.Author.Tests.{ltb-true, ltb-false}
-use Rattle.encoder.specs.Writing.{over}
+use Rattle.buffers.specs.Parts.{part, over}
 use Rattle.slots.specs.Slots.{freeSlot}
 use Rattle.slots.specs.declared.Slot.{Slot}
-use Rattle.bus_state.specs.Memory.{Memory, noNode, slotAt, part}
+use Rattle.bus_state.specs.Memory.{Memory, noNode, slotAt}
 use Rattle.bus_state.specs.declared.NodeState.{NodeState}
 use Rattle.bus_model.specs.Primitives.{entryAt, setEntry, layQueue, fillSlot}
 use Rattle.bus_model.specs.Refines.{Sized}
-use Rattle.bus_model.proofs.Offsets.{length-over, over-same, over-before, over-behind}
+use Rattle.buffers.proofs.Offsets.{length-over, over-same, over-before, over-behind}
 
 -- all that node i has is the same in two memories
 pub record Same (m m′ : Memory) (i : ℕ) : Type 0 where

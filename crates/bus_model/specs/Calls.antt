@@ -7,14 +7,14 @@ use mathlib.Core.Bool.{Bool, false, cond, not, _&&_, _||_}
 use lib.Dec.{leb, ltb, eqb}
 use lib.ListN.{length}
 use Rattle.operation.specs.Rules.{oneOf, errorCodes}
-use Rattle.encoder.specs.Writing.{over}
+use Rattle.buffers.specs.Parts.{part, over}
 use Rattle.decoder.specs.Stream.{itemsOf}
 use Rattle.plain_bus.specs.Held.{lastRound}
 use Rattle.plain_bus.specs.Refusal.{Refusal, badNodeCount, invalid, notAttached, bufferTooLong, badInjection, queueFull, roundsUsedUp, roomTooSmall}
 use Rattle.plain_bus.specs.Order.{Winner, nobody, wins}
 use Rattle.plain_bus.specs.Round.{Injection, noError, injected, isErrored, winnerId}
 use Rattle.plain_bus.specs.Calls.{Answer, refused, accepted, idle, carried, collected, isDone, answerNumber, maxSubmit}
-use Rattle.bus_state.specs.Memory.{Memory, slotCount, payloadBytes, queueBytes, bytesPerQueue, part}
+use Rattle.bus_state.specs.Memory.{Memory, slotCount, payloadBytes, queueBytes, bytesPerQueue}
 use Rattle.bus_state.specs.Valid.{validState}
 use Rattle.bus_model.specs.Primitives.{entryAt, offAt, withState, emptyQueue, newState, startMemory}
 use Rattle.bus_model.specs.Submit.{Progress, goesOn, stops, roomForEach, itemsIn}

@@ -7,7 +7,7 @@ use mathlib.Core.Bool.{Bool}
 use lib.Dec.{eqb}
 use lib.ListN.{length, set, replicate}
 use Rattle.operation.specs.declared.Operation.{Operation}
-use Rattle.encoder.specs.Writing.{over}
+use Rattle.buffers.specs.Parts.{over}
 use Rattle.slots.specs.Slots.{freeSlot, slotOf}
 use Rattle.slots.specs.declared.Slot.{Slot}
 use Rattle.plain_bus.specs.Held.{errorActive, busOff, bufferAndRetransmit}

@@ -2,7 +2,8 @@
 -- Assumes nothing.
 use Prim.Native.Nat.{ℕ, zero, suc, _+_, _*_}
 use mathlib.Core.List.{List, [], _∷_}
-use lib.ListN.{length, getD, take, drop}
+use lib.ListN.{getD}
+use Rattle.buffers.specs.Parts.{part}
 use Rattle.operation.specs.Format.{dataLength, encode}
 use Rattle.operation.specs.declared.Operation.{Operation}
 use Rattle.operation.specs.declared.Operation.the-variants.{Wakeup}
@@ -48,10 +49,6 @@ nodeState s j = getD (s .nodes) j noNode
 
 abbrev pub slotAt : Memory → ℕ → Slot
 slotAt m p = getD (m .slots) p freeSlot
-
--- n entries of a list from a position on
-unfoldable pub part : ℕ → ℕ → List ℕ → List ℕ
-part at n l = take n (drop at l)
 
 -- ---- the view
 

@@ -15,10 +15,17 @@ use Rattle.operation.specs.declared.Operation.{Operation}
 use Rattle.operation.specs.declared.Operation.the-variants.{FormatError, Wakeup}
 use Rattle.operation.proofs.Tests.{both}
 use Rattle.operation.proofs.Sizes.{head-small, header-length, encode-length}
-use Rattle.encoder.specs.Writing.{decision, answerOf, over, bufferAfter, writtenOf}
+use Rattle.encoder.specs.Writing.{decision, answerOf, bufferAfter, writtenOf}
 use Rattle.encoder.specs.declared.Written.{Written}
 use Rattle.encoder.specs.declared.Written.the-variants.{Done, RuleBroken, BufferTooSmall}
-use Rattle.encoder.proofs.Laying.{behind}
+use Rattle.buffers.specs.Parts.{over}
+use Rattle.buffers.proofs.Laying.{behind}
+
+-- data of the length that a 16-bit field says are not above 65,535 bytes
+pub short : (a : Bool) (given said : ℕ) → (a && eqb given said) ≡ true → said < 65536 → leb given 65_535 ≡ true
+short a given said e h =
+    let q : given ≡ said = eqb-true given said (both a (eqb given said) e .1) in
+    le-leb given 65535 (omega arith)
 
 pub record Accepted (op : Operation) (given room n : ℕ) : Type 0 where
   pub size : n ≡ lengthOf op

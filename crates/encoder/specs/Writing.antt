@@ -2,10 +2,11 @@
 -- last paragraph, and refusals 7 and 11).
 -- Assumes nothing.
 use Prim.Native.Nat.{ℕ, _+_}
-use mathlib.Core.List.{List, _++_}
+use mathlib.Core.List.{List}
 use mathlib.Core.Bool.{Bool, cond, _&&_}
 use lib.Dec.{leb, eqb}
-use lib.ListN.{length, take, drop}
+use lib.ListN.{length}
+use Rattle.buffers.specs.Parts.{over}
 use Rattle.operation.specs.Format.{headLength, dataLength, encode}
 use Rattle.operation.specs.Rules.{legal}
 use Rattle.operation.specs.declared.Operation.{Operation}
@@ -27,10 +28,6 @@ decision lawful head said given room =
 -- the answer, for so many data bytes and a buffer of so many bytes
 unfoldable pub answerOf : Operation → ℕ → ℕ → Written
 answerOf op given room = decision (legal op) (headLength op) (dataLength op) given room
-
--- some bytes laid over a list from a position on
-unfoldable pub over : List ℕ → ℕ → List ℕ → List ℕ
-over l at bytes = take at l ++ bytes ++ drop (at + length bytes) l
 
 -- the buffer after the answer: the operation at its front where it was written, and else as it was
 abbrev pub bufferAfter : Written → List ℕ → List ℕ → List ℕ

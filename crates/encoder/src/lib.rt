@@ -8,7 +8,12 @@ ghost use lib.ListN.{length};
 ghost use Rattle.operation.specs.Number.{littleEndian};
 ghost use Rattle.operation.specs.Format.{configurationLength, headLength, lengthOf, header, encode};
 ghost use Rattle.operation.specs.Rules.{legal};
-ghost use Rattle.encoder.specs.Writing.{numberOf, decision, answerOf, over, writtenOf};
+ghost use Rattle.encoder.specs.Writing.{numberOf, decision, answerOf, writtenOf};
+ghost use Rattle.buffers.specs.Parts.{over};
+use buffers::put;
+use buffers::put1;
+use buffers::put2;
+use buffers::put4;
 use operation::Operation;
 
 // The answer of a write: the length written, or the refusal.
@@ -43,43 +48,6 @@ fn decide(lawful: bool, head: usize, said: u16, given: usize, room: usize) -> Wr
         return Written::BufferTooSmall;
     }
     Written::RuleBroken
-}
-
-fn put1(buffer: &mut [u8], at: usize, x: u8)
-    requires { ⌜ at + 1 ≤ length (now buffer) ⌝ }
-    ensures { λ _. ⌜ now (buffer .exit) ≡ over (now (buffer .entry)) at (x ∷ []) ⌝ }
-{
-    buffer[at] = x;
-}
-
-fn put2(buffer: &mut [u8], at: usize, x: u16)
-    requires { ⌜ at + 2 ≤ length (now buffer) ⌝ }
-    ensures { λ _. ⌜ now (buffer .exit) ≡ over (now (buffer .entry)) at (littleEndian 2 x) ⌝ }
-{
-    buffer[at] = (x % 256) as u8;
-    buffer[at + 1] = (x / 256 % 256) as u8;
-}
-
-fn put4(buffer: &mut [u8], at: usize, x: u32)
-    requires { ⌜ at + 4 ≤ length (now buffer) ⌝ }
-    ensures { λ _. ⌜ now (buffer .exit) ≡ over (now (buffer .entry)) at (littleEndian 4 x) ⌝ }
-{
-    buffer[at] = (x % 256) as u8;
-    buffer[at + 1] = (x / 256 % 256) as u8;
-    buffer[at + 2] = (x / 256 / 256 % 256) as u8;
-    buffer[at + 3] = (x / 256 / 256 / 256 % 256) as u8;
-}
-
-// Lays bytes over a buffer from a position on.
-fn put(buffer: &mut [u8], at: usize, bytes: &[u8])
-    requires { ⌜ at + length (now bytes) ≤ length (now buffer) ⌝ }
-    ensures { λ _. ⌜ now (buffer .exit) ≡ over (now (buffer .entry)) at (now (bytes .entry)) ⌝ }
-{
-    let mut i = 0;
-    while i < bytes.len() {
-        buffer[at + i] = bytes[i];
-        i += 1;
-    }
 }
 
 // The header of each kind, that is all but the data: the first eight bytes, then the fields.

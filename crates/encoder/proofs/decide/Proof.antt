@@ -1,5 +1,5 @@
 -- Each return by the tests that led there; data of the length that a 16-bit field says are at most 65,535 bytes.
-use Rattle.encoder.proofs.Laying.{short}
+use Rattle.encoder.proofs.Answers.{short}
 use Rattle.encoder.specs.Writing.{decision}
 use borrow.Author.Tests.{le-leb, lt-leb}
 use native.Mathlib.Omega.{arith}

@@ -1,5 +1,5 @@
 -- The runs of the header, one behind the other.
-use Rattle.encoder.proofs.Laying.{in-turn}
+use Rattle.buffers.proofs.Laying.{in-turn}
 use Rattle.operation.specs.Format.{header}
 use Rattle.operation.specs.Number.{littleEndian}
 use denote.Ref.{now}

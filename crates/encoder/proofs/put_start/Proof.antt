@@ -1,5 +1,5 @@
 -- Two runs, one behind the other.
-use Rattle.encoder.proofs.Laying.{in-turn}
+use Rattle.buffers.proofs.Laying.{in-turn}
 use Rattle.operation.specs.Number.{littleEndian}
 use denote.Ref.{now}
 use mathlib.Core.List.{[], _∷_, _++_}

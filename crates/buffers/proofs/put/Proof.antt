@@ -1,6 +1,6 @@
 -- The loop's invariant: the first i bytes are pasted, and the buffer's length is as it was.
 use Prim.Native.Nat.{_≤_, _-_}
-use Rattle.encoder.specs.Writing.{over}
+use Rattle.buffers.specs.Parts.{over}
 use borrow.Author.Needs.{needs}
 use denote.Ref.{now}
 use lib.ListN.{length, length-set}
@@ -9,8 +9,8 @@ use mathlib.Core.Path.{_≡_, refl}
 use native.Mathlib.Nat.{le-antisymm}
 use native.Mathlib.Numerals.{add-one}
 use native.Mathlib.Omega.{arith}
-use Rattle.encoder.proofs.put.Statement.{statement}
-use Rattle.encoder.proofs.put.Tie as tie
+use Rattle.buffers.proofs.put.Statement.{statement}
+use Rattle.buffers.proofs.put.Tie as tie
 
 abbrev Inv-loop : tie.InvT-loop
 Inv-loop buffer₀ at bytes i₀ buffer i = (buffer ≡ paste buffer₀ at bytes i) × (i ≤ length bytes) × (length buffer ≡ length buffer₀)

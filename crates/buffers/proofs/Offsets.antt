@@ -1,13 +1,12 @@
 -- Parts of a list by offsets, after bytes were laid over it: there, before, behind, and across the end of what was there.
 -- Assumes nothing.
 use mathlib.Core.Path.{_≡_, sym, ap, _∙_}
-use Prim.Native.Nat.{ℕ, _+_, _-_, _≤_}
+use Prim.Native.Nat.{ℕ, _+_, _-_, _≤_, _<_}
 use native.Mathlib.Omega.{arith}
 use mathlib.Core.List.{List, _++_, append-assoc}
-use lib.ListN.{length, take, drop, length-append, length-take, length-drop, take-append-drop}
-use lib.Seq.{take-append-seam, drop-at, take-append-le, drop-append-le, drop-append-add, drop-drop, length-take-le, take-add}
-use Rattle.encoder.specs.Writing.{over}
-use Rattle.bus_state.specs.Memory.{part}
+use lib.ListN.{length, getD, take, drop, length-append, length-take, length-drop, take-append-drop}
+use lib.Seq.{take-append-seam, drop-at, take-append-le, drop-append-le, drop-append-add, drop-drop, length-take-le, take-add, paste, drop-paste, getD-take, getD-drop}
+use Rattle.buffers.specs.Parts.{part, over}
 
 pub length-part : (at n : ℕ) (l : List ℕ) → at + n ≤ length l → length (part at n l) ≡ n
 unfolding part
@@ -61,3 +60,18 @@ pub over-grown : (at n : ℕ) (xs l : List ℕ) → at + n + length xs ≤ lengt
     → part at (n + length xs) (over l (at + n) xs) ≡ part at n l ++ xs
 over-grown at n xs l h =
     rw (part-add at n (length xs) (over l (at + n) xs), over-before (at + n) xs l h at n (omega arith), over-same (at + n) xs l h)
+
+-- where some of a part are laid over the bytes before it, the next one is still where it was
+pub next-kept : (d : List ℕ) (at from n i : ℕ) → at + n ≤ from → from + n ≤ length d → i < n
+    → getD (paste d at (part from n d) i) (from + i) 0 ≡ getD (part from n d) i 0
+unfolding part
+next-kept d at from n i h g l =
+    let s = part from n d in
+    let k : i ≤ length s = rw (length-part from n d g) (omega arith) in
+    let e : from + i ≡ at + i + (from - at) = omega arith in
+    ap (λ (j : ℕ). getD (paste d at s i) j 0) e
+    ∙ sym (getD-drop (at + i) (paste d at s i) (from - at) 0)
+    ∙ ap (λ (q : List ℕ). getD q (from - at) 0) (drop-paste d at s i (omega arith) k)
+    ∙ getD-drop (at + i) d (from - at) 0
+    ∙ ap (λ (j : ℕ). getD d j 0) (sym e)
+    ∙ sym (getD-take n (drop from d) i 0 l ∙ getD-drop from d i 0)

@@ -1,5 +1,5 @@
 -- A run of two stores.
-use Rattle.encoder.specs.Writing.{over}
+use Rattle.buffers.specs.Parts.{over}
 use Rattle.operation.specs.Number.{littleEndian}
 use denote.Ref.{now}
 use lib.ListN.{length-set}
@@ -7,8 +7,8 @@ use lib.Seq.{sets-eq}
 use native.Mathlib.Numerals.{add-one}
 use native.Mathlib.Omega.{arith}
 use borrow.Author.Needs.{needs}
-use Rattle.encoder.proofs.put2.Statement.{statement}
-use Rattle.encoder.proofs.put2.Tie as tie
+use Rattle.buffers.proofs.put2.Statement.{statement}
+use Rattle.buffers.proofs.put2.Tie as tie
 
 slice-write-buffer-2 : tie.Need-slice-write-buffer-2
 slice-write-buffer-2 c = simp length-set (omega arith)

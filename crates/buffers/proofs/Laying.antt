@@ -1,22 +1,11 @@
--- Laws of bytes laid over a list, one run behind the other, and of the test on the data's length.
+-- Laws of bytes laid over a list, one run behind the other.
 -- Assumes nothing.
 use mathlib.Core.Path.{_≡_, refl}
-use mathlib.Core.Bool.{Bool, true, _&&_}
 use mathlib.Core.List.{List, [], _∷_, _++_, append-assoc, append-nil}
-use Prim.Native.Nat.{ℕ, _+_, _≤_, _<_}
-use native.Mathlib.Omega.{arith}
-use lib.Dec.{leb, eqb}
+use Prim.Native.Nat.{ℕ, _+_}
 use lib.ListN.{length, take, drop, length-append}
 use lib.Seq.{take-append-seam, drop-append-seam, drop-drop}
-use borrow.Author.Tests.{eqb-true, le-leb}
-use Rattle.operation.proofs.Tests.{both}
-use Rattle.encoder.specs.Writing.{over}
-
--- data of the length that a 16-bit field says are not above 65,535 bytes
-pub short : (a : Bool) (given said : ℕ) → (a && eqb given said) ≡ true → said < 65536 → leb given 65_535 ≡ true
-short a given said e h =
-    let q : given ≡ said = eqb-true given said (both a (eqb given said) e .1) in
-    le-leb given 65535 (omega arith)
+use Rattle.buffers.specs.Parts.{over}
 
 -- bytes laid at the front, and others right behind them
 pub behind : (l xs ys : List ℕ) → over (over l 0 xs) (length xs) ys ≡ over l 0 (xs ++ ys)

@@ -1,12 +1,12 @@
 -- A run of one store.
-use Rattle.encoder.specs.Writing.{over}
+use Rattle.buffers.specs.Parts.{over}
 use denote.Ref.{now}
 use lib.Seq.{sets-eq}
 use mathlib.Core.List.{[], _∷_}
 use native.Mathlib.Omega.{arith}
 use borrow.Author.Needs.{needs}
-use Rattle.encoder.proofs.put1.Statement.{statement}
-use Rattle.encoder.proofs.put1.Tie as tie
+use Rattle.buffers.proofs.put1.Statement.{statement}
+use Rattle.buffers.proofs.put1.Tie as tie
 
 returns : tie.Need-returns
 unfolding over
