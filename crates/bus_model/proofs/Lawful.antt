@@ -18,10 +18,10 @@ use Rattle.slots.specs.Slots.{contentOf, legalContent}
 use Rattle.slots.specs.declared.Slot.{Slot}
 use Rattle.slots.specs.declared.Content.{Content}
 use Rattle.slots.specs.declared.Content.the-variants.{Free, Transmit}
-use Rattle.plain_bus.specs.Kinds.{isTransmit}
+use Rattle.operation.specs.Kinds.{isTransmit}
 use Rattle.plain_bus.specs.Valid.{ReadsWhole}
 use Rattle.plain_bus.proofs.Codec.{reads-written}
-use Rattle.bus_state.specs.Memory.{heldIn}
+use Rattle.slots.specs.Slots.{heldIn}
 use Rattle.bus_model.specs.Refines.{TypedSlot}
 
 max-id : (ide : ℕ) → maxId ide ≤ 536_870_911

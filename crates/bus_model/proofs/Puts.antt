@@ -13,10 +13,11 @@ use Rattle.operation.specs.declared.Operation.the-variants.{FormatError, CanTra
 use Rattle.operation.proofs.Tests.{false-is-true}
 use Rattle.slots.specs.Slots.{contentOf, slotOf}
 use Rattle.slots.specs.declared.Content.the-variants.{Transmit}
-use Rattle.plain_bus.specs.Kinds.{isTransmit}
+use Rattle.operation.specs.Kinds.{isTransmit}
 use Rattle.plain_bus.specs.Submit.{accept}
 use Rattle.bus_state.specs.Memory.{Memory, operationAt, slotAt, frameAt, nodeView}
-use Rattle.bus_model.specs.Primitives.{entryAt, entryPending, setEntry, fillSlot, nextSlot, putFrame}
+use Rattle.bus_state.specs.Entries.{entryPending}
+use Rattle.bus_model.specs.Primitives.{entryAt, setEntry, fillSlot, nextSlot, putFrame}
 use Rattle.bus_model.specs.Refines.{Sized}
 use Rattle.bus_model.proofs.Writes.{Same, same-trans, entry-own, entry-others, entry-sized, slot-own, slot-other, bytes-own, bytes-other, slot-sized}
 use Rattle.bus_model.proofs.Views.{Fits, Moved, frames-moved, frames-snoc, entryView, entry-view}

@@ -16,7 +16,8 @@ use Rattle.plain_bus.specs.Round.{without}
 use Rattle.buffers.specs.Parts.{part}
 use Rattle.bus_state.specs.Memory.{Memory, operationAt, dataAtSlot, slotAt, frameAt, framesFrom, nodeView}
 use Rattle.bus_state.specs.declared.State.{State}
-use Rattle.bus_model.specs.Primitives.{entryAt, entryPending, setEntry, fillSlot, moveDown, removeFrame}
+use Rattle.bus_state.specs.Entries.{entryPending}
+use Rattle.bus_model.specs.Primitives.{entryAt, setEntry, fillSlot, moveDown, removeFrame}
 use Rattle.bus_model.specs.Refines.{Sized}
 use Rattle.buffers.proofs.Offsets.{length-part}
 use Rattle.bus_model.proofs.Writes.{Same, same-trans, entry-own, entry-others, entry-sized, slot-own, slot-other, bytes-own, bytes-other, slot-sized}

@@ -20,7 +20,7 @@ use Rattle.decoder.specs.declared.Front.the-variants.{Found}
 use Rattle.decoder.proofs.Found.{found}
 use Rattle.decoder.proofs.Decoded.{decoded}
 use Rattle.slots.specs.Slots.{slotOf}
-use Rattle.plain_bus.specs.Kinds.{isTransmit}
+use Rattle.operation.specs.Kinds.{isTransmit}
 use Rattle.plain_bus.specs.Held.{Node, queueCapacity, busOff, isOff, withStatus, withBehaviour, withRates, withQueue, withNode, withNodes, eachNode, allHaveRoom, enqueue}
 use Rattle.plain_bus.specs.Refusal.{fourPending, queueFull}
 use Rattle.plain_bus.specs.Submit.{Step, done, fails, accept, takeTransmit, configure, cleared, setStatus, wakeupFor, wake, takeWakeup, formatError, answerFormatError, unanswered, takeItem}
@@ -31,7 +31,8 @@ use Rattle.plain_bus.proofs.Changes.{joined, configured, statusSet, answered}
 use Rattle.plain_bus.proofs.Validity.{change-valid}
 use Rattle.buffers.specs.Parts.{part}
 use Rattle.bus_state.specs.Memory.{Memory, slotAt, framesFrom, nodeView, view}
-use Rattle.bus_model.specs.Primitives.{entryAt, offAt, entryBehaviour, entryRates, setEntry, fillSlot, nextSlot, putFrame, append, clearNode, inTurn}
+use Rattle.bus_state.specs.Entries.{entryBehaviour, entryRates}
+use Rattle.bus_model.specs.Primitives.{entryAt, offAt, setEntry, fillSlot, nextSlot, putFrame, append, clearNode, inTurn}
 use Rattle.bus_model.specs.Submit.{Progress, goesOn, stops, roomAt, transmitIn, configureIn, statusOf, statusIn, wakeupAt, wakeAt, wakeupIn, answerIn, itemIn}
 use Rattle.bus_model.specs.Refines.{Sized, TypedSlot}
 use Rattle.bus_model.proofs.Writes.{Same}

@@ -17,7 +17,8 @@ use Rattle.plain_bus.proofs.Nodes.{length-each, each-at}
 use Rattle.plain_bus.proofs.Kept.{by-number}
 use Rattle.bus_state.specs.Memory.{Memory, slotAt, nodeView, view}
 use Rattle.bus_state.specs.declared.NodeState.{NodeState}
-use Rattle.bus_model.specs.Primitives.{entryAt, entryFill, setEntry, layQueue, append, removeFrame}
+use Rattle.bus_state.specs.Entries.{entryFill}
+use Rattle.bus_model.specs.Primitives.{entryAt, setEntry, layQueue, append, removeFrame}
 use Rattle.bus_model.specs.Refines.{Sized, TypedSlot}
 use Rattle.bus_model.proofs.Writes.{Same, same-refl, same-trans, entry-own, entry-others, entry-sized}
 use Rattle.bus_model.proofs.Views.{Fits, same-view, entryView, entry-view, append-view, append-others, append-sized}

@@ -12,6 +12,7 @@ use Rattle.slots.specs.Slots.{freeSlot, slotOf}
 use Rattle.slots.specs.declared.Slot.{Slot}
 use Rattle.plain_bus.specs.Held.{errorActive, busOff, bufferAndRetransmit}
 use Rattle.bus_state.specs.Memory.{Memory, slotCount, slotsPerNode, bytesPerSlot, bytesPerQueue, nodeState, slotAt, dataAtSlot}
+use Rattle.bus_state.specs.Entries.{entryFill, entryPending, withEntry}
 use Rattle.bus_state.specs.declared.State.{State}
 use Rattle.bus_state.specs.declared.NodeState.{NodeState}
 
@@ -22,21 +23,6 @@ entryAt m j = nodeState (m .state) j
 
 abbrev pub offAt : Memory → ℕ → Bool
 offAt m j = eqb (entryAt m j .status) busOff
-
-abbrev pub entryStatus : NodeState → ℕ → NodeState
-entryStatus d x = record { rates = d .rates; fill = d .fill; status = x; behaviour = d .behaviour; pending = d .pending }
-
-abbrev pub entryBehaviour : NodeState → ℕ → NodeState
-entryBehaviour d x = record { rates = d .rates; fill = d .fill; status = d .status; behaviour = x; pending = d .pending }
-
-abbrev pub entryRates : NodeState → List ℕ → NodeState
-entryRates d x = record { rates = x; fill = d .fill; status = d .status; behaviour = d .behaviour; pending = d .pending }
-
-abbrev pub entryFill : NodeState → ℕ → NodeState
-entryFill d x = record { rates = d .rates; fill = x; status = d .status; behaviour = d .behaviour; pending = d .pending }
-
-abbrev pub entryPending : NodeState → ℕ → NodeState
-entryPending d x = record { rates = d .rates; fill = d .fill; status = d .status; behaviour = d .behaviour; pending = x }
 
 -- ---- the parts of the memory
 
@@ -53,8 +39,7 @@ abbrev pub withQueues : Memory → List ℕ → Memory
 withQueues m x = record { state = m .state; slots = m .slots; payload = m .payload; queues = x }
 
 unfoldable pub setEntry : Memory → ℕ → NodeState → Memory
-setEntry m j d =
-    withState m (record { count = m .state .count; round = m .state .round; nodes = set (m .state .nodes) j d })
+setEntry m j d = withState m (withEntry (m .state) j d)
 
 unfoldable pub setRound : Memory → ℕ → Memory
 setRound m x = withState m (record { count = m .state .count; round = x; nodes = m .state .nodes })

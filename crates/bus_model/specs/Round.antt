@@ -6,7 +6,7 @@ use mathlib.Core.Bool.{Bool, cond}
 use lib.Dec.{eqb}
 use Rattle.operation.specs.Format.{encode}
 use Rattle.operation.specs.declared.Operation.the-variants.{Confirm, ArbitrationLost}
-use Rattle.plain_bus.specs.Kinds.{idOf}
+use Rattle.operation.specs.Kinds.{idOf}
 use Rattle.plain_bus.specs.Held.{discardAndNotify}
 use Rattle.plain_bus.specs.Order.{Entry, Winner, nobody, better}
 use Rattle.plain_bus.specs.Round.{Injection, noError, injected, winnerId, errorFor}

@@ -13,7 +13,8 @@ use Rattle.plain_bus.specs.Held.{busOff}
 use Rattle.plain_bus.specs.Refusal.{Refusal, fourPending, queueFull}
 use Rattle.plain_bus.specs.Submit.{formatError, unanswered}
 use Rattle.bus_state.specs.Memory.{Memory, slotsPerNode, bytesPerQueue}
-use Rattle.bus_model.specs.Primitives.{entryAt, offAt, entryStatus, entryBehaviour, entryRates, setEntry, putFrame, append, clearNode, inTurn}
+use Rattle.bus_state.specs.Entries.{entryStatus, entryBehaviour, entryRates}
+use Rattle.bus_model.specs.Primitives.{entryAt, offAt, setEntry, putFrame, append, clearNode, inTurn}
 
 -- what a step gives: the memory after it, or the refusal
 pub data Progress : Type 0 where

@@ -6,11 +6,8 @@ use lib.ListN.{getD}
 use Rattle.buffers.specs.Parts.{part}
 use Rattle.operation.specs.Format.{dataLength, encode}
 use Rattle.operation.specs.declared.Operation.{Operation}
-use Rattle.operation.specs.declared.Operation.the-variants.{Wakeup}
-use Rattle.slots.specs.Slots.{freeSlot, contentOf}
+use Rattle.slots.specs.Slots.{freeSlot, contentOf, heldIn}
 use Rattle.slots.specs.declared.Slot.{Slot}
-use Rattle.slots.specs.declared.Content.{Content}
-use Rattle.slots.specs.declared.Content.the-variants.{Free, Transmit}
 use Rattle.plain_bus.specs.Held.{Frame, Node, Bus}
 use Rattle.bus_state.specs.declared.State.{State}
 use Rattle.bus_state.specs.declared.NodeState.{NodeState}
@@ -20,6 +17,9 @@ pub record Memory : Type 0 where
   pub slots : List Slot
   pub payload : List ℕ
   pub queues : List ℕ
+
+abbrev pub held : State → List Slot → List ℕ → List ℕ → Memory
+held s slots payload queues = record { state = s; slots = slots; payload = payload; queues = queues }
 
 -- how much is lent, and what one node and one slot have of it
 abbrev pub slotCount : ℕ
@@ -51,11 +51,6 @@ abbrev pub slotAt : Memory → ℕ → Slot
 slotAt m p = getD (m .slots) p freeSlot
 
 -- ---- the view
-
--- the Transmit that a slot holds
-abbrev pub heldIn : Content → Operation
-heldIn Free = Wakeup
-heldIn (Transmit op) = op
 
 abbrev pub operationAt : Memory → ℕ → Operation
 operationAt m p = heldIn (contentOf (slotAt m p))

@@ -2,6 +2,9 @@
 ghost use mathlib.Core.Path.{_≡_};
 ghost use Prim.Native.Nat.{_-_, _≤_, _<_};
 ghost use Rattle.operation.specs.Rules.{oneOf, behaviours};
+ghost use lib.ListN.{set};
+ghost use Rattle.bus_state.specs.Memory.{nodeState};
+ghost use Rattle.bus_state.specs.Entries.{withEntry, entryStatus, entryBehaviour, entryRates, entryFill, entryPending};
 ghost use Rattle.bus_state.specs.Valid.{nonZero, validEntry, validSlot, validSlots, validNode, validState};
 use slots::Slot;
 
@@ -108,4 +111,62 @@ pub fn is_valid(s: State, a: [Slot; 32]) -> bool
         j += 1;
     }
     true
+}
+
+// Reading and setting one entry and its fields, for the crates above: what is asked of j they must meet.
+
+pub fn entry(s: State, j: usize) -> NodeState
+    requires { ⌜ j < 8 ⌝ }
+    ensures { λ r. ⌜ r ≡ nodeState s j ⌝ }
+{
+    let nodes = s.nodes;
+    nodes[j]
+}
+
+pub fn with_entry(mut s: State, j: usize, d: NodeState) -> State
+    requires { ⌜ j < 8 ⌝ }
+    ensures { λ r. ⌜ r ≡ withEntry s j d ⌝ }
+{
+    let mut nodes = s.nodes;
+    nodes[j] = d;
+    s.nodes = nodes;
+    s
+}
+
+pub fn with_fill(mut d: NodeState, fill: u16) -> NodeState
+    ensures { λ r. ⌜ r ≡ entryFill d fill ⌝ }
+{
+    d.fill = fill;
+    d
+}
+
+pub fn with_pending(mut d: NodeState, pending: u8) -> NodeState
+    ensures { λ r. ⌜ r ≡ entryPending d pending ⌝ }
+{
+    d.pending = pending;
+    d
+}
+
+pub fn with_status(mut d: NodeState, status: u8) -> NodeState
+    ensures { λ r. ⌜ r ≡ entryStatus d status ⌝ }
+{
+    d.status = status;
+    d
+}
+
+pub fn with_behaviour(mut d: NodeState, behaviour: u8) -> NodeState
+    ensures { λ r. ⌜ r ≡ entryBehaviour d behaviour ⌝ }
+{
+    d.behaviour = behaviour;
+    d
+}
+
+pub fn with_rate(mut d: NodeState, i: usize, rate: u32) -> NodeState
+    requires { ⌜ i < 3 ⌝ }
+    ensures { λ r. ⌜ r ≡ entryRates d (set (d .rates) i rate) ⌝ }
+{
+    let mut rates = d.rates;
+    rates[i] = rate;
+    d.rates = rates;
+    d
 }

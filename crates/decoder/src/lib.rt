@@ -53,6 +53,13 @@ fn u32_at(t: &[u8], i: usize) -> u32
     u16_at(t, i) as u32 + 65536 * u16_at(t, i + 2) as u32
 }
 
+// The code that some bytes start with; bytes that are missing count as 0.
+pub fn code_of(t: &[u8]) -> u32
+    ensures { λ r. ⌜ r ≡ numberAt 4 (now (t .entry)) 0 ⌝ }
+{
+    u32_at(t, 0)
+}
+
 // Fault 4 before fault 5.
 fn give_verdict(sized: bool, lawful: bool, op: Operation, size: usize) -> Front
     ensures { λ r. ⌜ r ≡ verdict sized lawful op size ⌝ }
@@ -267,7 +274,7 @@ fn read_wakeup(t: &[u8]) -> Front
 fn read_operation(t: &[u8]) -> Front
     ensures { λ r. ⌜ r ≡ decode (now (t .entry)) ⌝ }
 {
-    let code = u32_at(t, 0);
+    let code = code_of(t);
     match code {
         0x01 => read_format_error(t),
         0x10 => read_can(t),

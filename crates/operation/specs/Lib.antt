@@ -1,3 +1,4 @@
 pub mod Number
 pub mod Format
 pub mod Rules
+pub mod Kinds

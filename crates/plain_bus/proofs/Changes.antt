@@ -10,7 +10,8 @@ use lib.ListN.{length, getD}
 use Rattle.operation.specs.Rules.{oneOf, errorCodes, legal}
 use Rattle.operation.specs.declared.Operation.{Operation}
 use Rattle.operation.specs.declared.Operation.the-variants.{Configuration, Status}
-use Rattle.plain_bus.specs.Kinds.{idOf, closes}
+use Rattle.operation.specs.Kinds.{idOf}
+use Rattle.plain_bus.specs.Closing.{closes}
 use Rattle.plain_bus.specs.Held.{Frame, Node, maxPending, queueCapacity, busOff, isOff, withQueue, enqueue}
 use Rattle.plain_bus.specs.Submit.{accept, configure, setStatus}
 use Rattle.plain_bus.specs.Order.{Entry}

@@ -14,7 +14,8 @@ use Rattle.operation.proofs.Tests.{passed}
 use Rattle.operation.specs.declared.Operation.the-variants.{FormatError, CanTransmit, FdTransmit, XlTransmit, Confirm, ArbitrationLost, BusError, Configuration, Status, Wakeup}
 use Rattle.decoder.specs.Stream.{itemsOf}
 use Rattle.decoder.proofs.Found.{found}
-use Rattle.plain_bus.specs.Kinds.{isTransmit, idOf, closes}
+use Rattle.operation.specs.Kinds.{isTransmit, idOf}
+use Rattle.plain_bus.specs.Closing.{closes}
 use Rattle.plain_bus.specs.Held.{Frame, Node, isOff}
 use Rattle.plain_bus.specs.Order.{Entry}
 use Rattle.plain_bus.specs.Round.{Injection, noError, injected, primaryErrorFlag, secondaryErrorFlag, winnerId, errorFor, newsFor, lostNotices, told, owed}

@@ -12,9 +12,10 @@ use Rattle.operation.specs.Rules.{maxExtendedId}
 use Rattle.operation.specs.declared.Operation.the-variants.{FormatError, CanTransmit, FdTransmit, XlTransmit, Confirm, ArbitrationLost, BusError, Configuration, Status, Wakeup}
 use Rattle.operation.proofs.Tests.{both, false-is-true}
 use Rattle.decoder.specs.Stream.{Item, operation, fault, itemsOf}
-use Rattle.plain_bus.specs.Kinds.{idOf, closes}
+use Rattle.operation.specs.Kinds.{idOf}
+use Rattle.plain_bus.specs.Closing.{closes}
 use Rattle.plain_bus.specs.Held.{maxPending, queueCapacity, busOff}
-use Rattle.plain_bus.specs.Refusal.{invalid, registerFull, registerDiffers}
+use Rattle.plain_bus.specs.Refusal.{invalidRegister, registerFull, registerDiffers}
 use Rattle.plain_bus.specs.Register.{Register, maxOpen, withOpened, newRegister, noneAbove, validRegister, Update, updated, rejected, updates, openId, withOff, noteStatus, enterItem, enter, isOpen, remove, closeId, readItem, read}
 use Rattle.plain_bus.proofs.Whole.{ValidItem, ValidItems, items-valid}
 use Rattle.plain_bus.proofs.Owed.{read-id}
@@ -157,12 +158,12 @@ updates-fit step keeps (i ∷ is) (updated r) v f = updates-fit step keeps is (s
 
 kept-by : (step : Register → Item → Update) → ((r : Register) (i : Item) → ValidItem i → Fits r → FitsAfter (step r i))
     → (r : Register) (buffer : List ℕ) {r′ : Register}
-    → cond (validRegister r) (updates step (itemsOf buffer) (updated r)) (rejected invalid) ≡ updated r′
+    → cond (validRegister r) (updates step (itemsOf buffer) (updated r)) (rejected invalidRegister) ≡ updated r′
     → validRegister r′ ≡ true
 kept-by step keeps r buffer {r′} e = go (validRegister r) refl e
   where
     go : (t : Bool) → validRegister r ≡ t
-        → cond t (updates step (itemsOf buffer) (updated r)) (rejected invalid) ≡ updated r′ → validRegister r′ ≡ true
+        → cond t (updates step (itemsOf buffer) (updated r)) (rejected invalidRegister) ≡ updated r′ → validRegister r′ ≡ true
     go true q e =
         valid-of r′ (subst FitsAfter e (updates-fit step keeps (itemsOf buffer) (updated r) (items-valid buffer) (fits-of r q)))
     go false q e = let z : _≡_ {A = ℕ} 0 1 = cc in absurd (omega arith)

@@ -15,7 +15,7 @@ use Rattle.operation.specs.declared.Operation.{Operation}
 use Rattle.operation.specs.declared.Operation.the-variants.{FormatError, CanTransmit, FdTransmit, XlTransmit, Confirm, ArbitrationLost, BusError, Configuration, Status, Wakeup}
 use Rattle.decoder.specs.Stream.{Item, operation, fault}
 use Rattle.decoder.proofs.Found.{found}
-use Rattle.plain_bus.specs.Kinds.{isTransmit, idOf}
+use Rattle.operation.specs.Kinds.{isTransmit, idOf}
 use Rattle.plain_bus.specs.Held.{Frame, Node, Bus, maxPending, queueCapacity, lastRound, busOff, isOff, withQueue, newNode, attached, nodeAt, withNode, withNodes, eachNode, hasRoom, allHaveRoom, enqueue}
 use Rattle.plain_bus.specs.Refusal.{Refusal, fourPending, queueFull}
 use Rattle.plain_bus.specs.Submit.{done, fails, accept, takeTransmit, wakeupFor, wake, takeWakeup, formatError, answerFormatError, unanswered, takeItem, takeItems}

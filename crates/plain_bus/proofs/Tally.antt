@@ -13,7 +13,8 @@ use borrow.Author.Tests.{le-leb, lt-leb, eq-eqb}
 use Rattle.operation.specs.Rules.{maxExtendedId}
 use Rattle.operation.proofs.Tests.{false-is-true}
 use Rattle.decoder.specs.Stream.{Item, operation, fault, itemsOf}
-use Rattle.plain_bus.specs.Kinds.{idOf, closes}
+use Rattle.operation.specs.Kinds.{idOf}
+use Rattle.plain_bus.specs.Closing.{closes}
 use Rattle.plain_bus.specs.Held.{Frame, Node, maxPending, busOff, isOff, withStatus, withBehaviour, withRates, withPending, withQueue, enqueue}
 use Rattle.plain_bus.specs.Submit.{accept, cleared, configure, setStatus}
 use Rattle.plain_bus.specs.Order.{Entry}

@@ -16,7 +16,8 @@ use Rattle.decoder.specs.Front.{front}
 use Rattle.decoder.specs.Stream.{Item, operation, fault, itemsOf}
 use Rattle.decoder.specs.declared.Front.{Front}
 use Rattle.decoder.specs.declared.Front.the-variants.{End, Fault, Found}
-use Rattle.plain_bus.specs.Kinds.{idOf, closes}
+use Rattle.operation.specs.Kinds.{idOf}
+use Rattle.plain_bus.specs.Closing.{closes}
 use Rattle.plain_bus.specs.Valid.{ReadsWhole, noFault, Whole}
 use Rattle.plain_bus.specs.Session.{closingIds}
 use Rattle.decoder.proofs.Forward.{forward}

@@ -1,4 +1,4 @@
-pub mod Kinds
+pub mod Closing
 pub mod Held
 pub mod Refusal
 pub mod Submit

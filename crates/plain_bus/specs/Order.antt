@@ -7,7 +7,7 @@ use mathlib.Core.Bool.{Bool, cond, _&&_, _||_}
 use lib.Dec.{ltb, eqb}
 use lib.ListN.{length, getD}
 use Rattle.operation.specs.declared.Operation.{Operation}
-use Rattle.plain_bus.specs.Kinds.{idOf}
+use Rattle.operation.specs.Kinds.{idOf}
 use Rattle.plain_bus.specs.Held.{Frame, Node, Bus, nodeAt}
 
 -- a pending frame with its node's number and its position among that node's pending frames, oldest first

@@ -5,7 +5,7 @@ use Prim.Native.Nat.{ℕ}
 
 pub data Refusal : Type 0 where
   badNodeCount invalid notAttached bufferTooLong badInjection : Refusal
-  fourPending queueFull roundsUsedUp roomTooSmall registerFull registerDiffers : Refusal
+  fourPending queueFull roundsUsedUp roomTooSmall : Refusal
 
 abbrev pub numberOf : Refusal → ℕ
 numberOf badNodeCount = 2
@@ -17,5 +17,12 @@ numberOf fourPending = 8
 numberOf queueFull = 9
 numberOf roundsUsedUp = 10
 numberOf roomTooSmall = 11
-numberOf registerFull = 12
-numberOf registerDiffers = 13
+
+-- those of the register (01: the book)
+pub data RegisterRefusal : Type 0 where
+  invalidRegister registerFull registerDiffers : RegisterRefusal
+
+abbrev pub registerNumber : RegisterRefusal → ℕ
+registerNumber invalidRegister = 3
+registerNumber registerFull = 12
+registerNumber registerDiffers = 13

@@ -8,9 +8,10 @@ use lib.ListN.{length}
 use Rattle.operation.specs.Rules.{maxExtendedId}
 use Rattle.operation.specs.declared.Operation.the-variants.{FormatError, CanTransmit, FdTransmit, XlTransmit, Confirm, ArbitrationLost, BusError, Configuration, Status, Wakeup}
 use Rattle.decoder.specs.Stream.{Item, operation, fault, itemsOf}
-use Rattle.plain_bus.specs.Kinds.{idOf, closes}
+use Rattle.operation.specs.Kinds.{idOf}
+use Rattle.plain_bus.specs.Closing.{closes}
 use Rattle.plain_bus.specs.Held.{busOff}
-use Rattle.plain_bus.specs.Refusal.{Refusal, numberOf, invalid, registerFull, registerDiffers}
+use Rattle.plain_bus.specs.Refusal.{RegisterRefusal, registerNumber, invalidRegister, registerFull, registerDiffers}
 
 -- the open ID numbers, repeats allowed, and whether the node is Bus-Off
 pub record Register : Type 0 where
@@ -43,12 +44,12 @@ validRegister r =
 -- what a register call gives, and each of its steps: the register after it (number 0), or the refusal
 pub data Update : Type 0 where
   updated : Register → Update
-  rejected : Refusal → Update
+  rejected : RegisterRefusal → Update
 
 -- the number that 01 gives, and the register after a call that found it as r: a refusal hands it back as it was
 abbrev pub updateNumber : Update → ℕ
 updateNumber (updated r) = 0
-updateNumber (rejected x) = numberOf x
+updateNumber (rejected x) = registerNumber x
 
 abbrev pub registerAfter : Register → Update → Register
 registerAfter r (updated r′) = r′
@@ -62,7 +63,7 @@ updates step (i ∷ is) (updated r) = updates step is (step r i)
 
 -- a call on a register that is not valid is refused by 3, before all else
 abbrev pub ifValid : Register → Update → Update
-ifValid r u = cond (validRegister r) u (rejected invalid)
+ifValid r u = cond (validRegister r) u (rejected invalidRegister)
 
 -- ---- entering a submitted buffer
 

@@ -7,7 +7,7 @@ use lib.Dec.{eqb}
 use Rattle.operation.specs.Format.{encode}
 use Rattle.operation.specs.declared.Operation.{Operation}
 use Rattle.operation.specs.declared.Operation.the-variants.{Confirm, ArbitrationLost, BusError}
-use Rattle.plain_bus.specs.Kinds.{idOf}
+use Rattle.operation.specs.Kinds.{idOf}
 use Rattle.plain_bus.specs.Held.{Frame, Node, Bus, isOff, discards, withPending, withNodes, withRound, eachNode, enqueue}
 use Rattle.plain_bus.specs.Order.{Entry}
 

@@ -7,7 +7,8 @@ use mathlib.Core.Bool.{Bool, true, cond, _&&_}
 use lib.Dec.{eqb}
 use lib.ListN.{length, getD, set, replicate}
 use Rattle.decoder.specs.Stream.{Item, operation, fault, itemsOf}
-use Rattle.plain_bus.specs.Kinds.{idOf, closes}
+use Rattle.operation.specs.Kinds.{idOf}
+use Rattle.plain_bus.specs.Closing.{closes}
 use Rattle.plain_bus.specs.Held.{Frame, Bus, nodeAt}
 use Rattle.plain_bus.specs.Round.{Injection}
 use Rattle.plain_bus.specs.Calls.{Answer, accepted, isDone, bytesGiven, Outcome, start, submit, runRound, collect}

@@ -11,7 +11,7 @@ use Rattle.operation.specs.declared.Operation.{Operation}
 use Rattle.decoder.specs.Front.{front}
 use Rattle.decoder.specs.Stream.{Item, operation, fault, itemsOf}
 use Rattle.decoder.specs.declared.Front.the-variants.{Found}
-use Rattle.plain_bus.specs.Kinds.{isTransmit}
+use Rattle.operation.specs.Kinds.{isTransmit}
 use Rattle.plain_bus.specs.Held.{Frame, Node, Bus, maxPending, queueCapacity, lastRound, isOff, nodeAt}
 
 -- the bytes are those of one operation, which meets the content rules: else reading would not find it

@@ -1,8 +1,10 @@
 -- The pending slot (01: a place): what a slot holds of a Transmit, and the slot that holds one.
 -- Assumes nothing.
-use Prim.Native.Nat.{ℕ}
+use Prim.Native.Nat.{ℕ, _+_}
 use mathlib.Core.Bool.{Bool, true, false, cond}
 use lib.Dec.{eqb}
+use mathlib.Core.List.{List}
+use lib.ListN.{getD, set}
 use Rattle.operation.specs.Rules.{legal}
 use Rattle.operation.specs.declared.Operation.{Operation}
 use Rattle.operation.specs.declared.Operation.the-variants.{FormatError, CanTransmit, FdTransmit, XlTransmit, Confirm, ArbitrationLost, BusError, Configuration, Status, Wakeup}
@@ -36,6 +38,11 @@ contentOf s =
     (cond (eqb (s .kind) 0x12) (Transmit (XlTransmit (s .id) (s .first) (s .second) (s .third) (s .fourth) (s .af) (s .length)))
     Free))
 
+-- the Transmit that a slot holds
+abbrev pub heldIn : Content → Operation
+heldIn Free = Wakeup
+heldIn (Transmit op) = op
+
 -- the slot of an operation: of a Transmit one that holds it, of any other a free one
 unfoldable pub slotOf : Operation → ℕ → ℕ → Slot
 slotOf (FormatError n) owner accepted = freeSlot
@@ -53,3 +60,8 @@ slotOf Wakeup owner accepted = freeSlot
 abbrev pub legalContent : Content → Bool
 legalContent Free = false
 legalContent (Transmit op) = legal op
+
+-- four slots laid over a list from a position on
+unfoldable pub setBlock : List Slot → ℕ → List Slot → List Slot
+setBlock l at b =
+    set (set (set (set l at (getD b 0 freeSlot)) (at + 1) (getD b 1 freeSlot)) (at + 2) (getD b 2 freeSlot)) (at + 3) (getD b 3 freeSlot)

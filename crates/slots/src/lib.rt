@@ -1,6 +1,7 @@
 // The pending slot (01: a place) by value.
 ghost use mathlib.Core.Path.{_≡_};
-ghost use Rattle.slots.specs.Slots.{slotRow, contentOf, slotOf, legalContent};
+ghost use Rattle.operation.specs.Kinds.{idOf};
+ghost use Rattle.slots.specs.Slots.{slotRow, contentOf, heldIn, slotOf, legalContent};
 use operation::Operation;
 
 // What a pending frame needs besides its data: its sender, the round at which it was accepted, and the Transmit. kind is the
@@ -81,6 +82,29 @@ pub fn content_of(s: Slot) -> Content
             dl: s.length,
         }),
         _ => Content::Free,
+    }
+}
+
+// The Transmit that a slot holds; Wakeup for a free one.
+pub fn held_in(s: Slot) -> Operation
+    ensures { λ r. ⌜ r ≡ heldIn (contentOf s) ⌝ }
+{
+    match content_of(s) {
+        Content::Free => Operation::Wakeup,
+        Content::Transmit(op) => op,
+    }
+}
+
+// The ID of the Transmit that a slot holds, and 0 for a free one.
+pub fn id_of(s: Slot) -> u32
+    ensures { λ r. ⌜ r ≡ idOf (heldIn (contentOf s)) ⌝ }
+{
+    let kind = s.kind;
+    match kind {
+        0x10 => s.id,
+        0x11 => s.id,
+        0x12 => s.id,
+        _ => 0,
     }
 }
 

@@ -1,10 +1,9 @@
--- Which operations carry a frame, which one they name, and which close it (01, "Operations as bytes", "The book").
+-- Which operations carry a frame, and which ID they name (01, "Operations as bytes").
 -- Assumes nothing.
 use Prim.Native.Nat.{ℕ}
 use mathlib.Core.Bool.{Bool, true, false}
-use lib.Dec.{eqb}
 use Rattle.operation.specs.declared.Operation.{Operation}
 use Rattle.operation.specs.declared.Operation.the-variants.{FormatError, CanTransmit, FdTransmit, XlTransmit, Confirm, ArbitrationLost, BusError, Configuration, Status, Wakeup}
 
 abbrev pub isTransmit : Operation → Bool
 isTransmit (FormatError n) = false
@@ -30,16 +29,3 @@ idOf (BusError id code flag sender) = id
 idOf (Configuration kind value) = 0
 idOf (Status status) = 0
 idOf Wakeup = 0
-
--- a closing operation: Confirm, Arbitration Lost, or Bus Error with Is Sender 1
-abbrev pub closes : Operation → Bool
-closes (FormatError n) = false
-closes (CanTransmit id ide rtr dl) = false
-closes (FdTransmit id ide brs esi dl) = false
-closes (XlTransmit id ide sec sdt vcid af dl) = false
-closes (Confirm id) = true
-closes (ArbitrationLost id) = true
-closes (BusError id code flag sender) = eqb sender 1
-closes (Configuration kind value) = false
-closes (Status status) = false
-closes Wakeup = false

@@ -1,0 +1,92 @@
+-- The outcome of a call: which case each reply of the model is, and what is answered in each case (01, "Numbers that calls answer with").
+-- Assumes nothing.
+use Prim.Native.Nat.{ℕ, _+_}
+use mathlib.Core.List.{List, [], _∷_}
+use mathlib.Core.Bool.{cond}
+use lib.ListN.{length, getD}
+use Rattle.slots.specs.Slots.{freeSlot, setBlock}
+use Rattle.slots.specs.declared.Slot.{Slot}
+use Rattle.plain_bus.specs.Refusal.{Refusal, badNodeCount, invalid, notAttached, bufferTooLong, badInjection, fourPending, queueFull, roundsUsedUp, roomTooSmall}
+use Rattle.plain_bus.specs.Calls as calls
+use Rattle.bus_state.specs.Memory.{Memory, held}
+use Rattle.bus_state.specs.declared.State.{State}
+use Rattle.bus_model.specs.Calls.{Reply, wrongMemory, answers, Result}
+use Rattle.outcome.specs.declared.Outcome.{Outcome}
+use Rattle.outcome.specs.declared.Outcome.the-variants.{WrongMemory, BadNodeCount, Invalid, NotAttached, BufferTooLong, BadInjection, FourPending, QueueFull, RoundsUsedUp, RoomTooSmall, Accepted, Idle, Carried, Collected}
+use Rattle.outcome.specs.declared.Change.{Change}
+use Rattle.outcome.specs.declared.Answer.{Answer}
+
+abbrev pub refusalIs : Refusal → Outcome
+refusalIs badNodeCount = BadNodeCount
+refusalIs invalid = Invalid
+refusalIs notAttached = NotAttached
+refusalIs bufferTooLong = BufferTooLong
+refusalIs badInjection = BadInjection
+refusalIs fourPending = FourPending
+refusalIs queueFull = QueueFull
+refusalIs roundsUsedUp = RoundsUsedUp
+refusalIs roomTooSmall = RoomTooSmall
+
+-- the case of a reply; of collected bytes it has the number
+abbrev pub outcomeIs : Reply → Outcome
+outcomeIs wrongMemory = WrongMemory
+outcomeIs (answers (calls.refused r)) = refusalIs r
+outcomeIs (answers calls.accepted) = Accepted
+outcomeIs (answers calls.idle) = Idle
+outcomeIs (answers (calls.carried sender id errored age)) = Carried sender id errored age
+outcomeIs (answers (calls.collected bytes)) = Collected (length bytes)
+
+abbrev pub answerRow : (number id age length sender idle errored : ℕ) → State → Answer
+answerRow number id age length sender idle errored s = record {
+  number = number;
+  id = id;
+  age = age;
+  length = length;
+  sender = sender;
+  idle = idle;
+  errored = errored;
+  state = s;
+}
+
+-- a refusal gives only its number
+abbrev pub refusalRow : ℕ → State → Answer
+refusalRow number s = answerRow number 0 0 0 0 0 0 s
+
+abbrev pub answerOf : Outcome → State → Answer
+answerOf WrongMemory s = refusalRow 1 s
+answerOf BadNodeCount s = refusalRow 2 s
+answerOf Invalid s = refusalRow 3 s
+answerOf NotAttached s = refusalRow 4 s
+answerOf BufferTooLong s = refusalRow 5 s
+answerOf BadInjection s = refusalRow 6 s
+answerOf FourPending s = refusalRow 8 s
+answerOf QueueFull s = refusalRow 9 s
+answerOf RoundsUsedUp s = refusalRow 10 s
+answerOf RoomTooSmall s = refusalRow 11 s
+answerOf Accepted s = answerRow 0 0 0 0 0 0 0 s
+answerOf Idle s = answerRow 0 0 0 0 0 1 0 s
+answerOf (Carried sender id errored age) s = answerRow 0 id age 0 sender 0 (cond errored 1 0) s
+answerOf (Collected n) s = answerRow 0 0 0 n 0 0 0 s
+
+-- ---- what a call leaves among the slots
+
+abbrev pub blockAt : List Slot → ℕ → List Slot
+blockAt l at =
+    getD l at freeSlot ∷ getD l (at + 1) freeSlot ∷ getD l (at + 2) freeSlot ∷ getD l (at + 3) freeSlot ∷ []
+
+abbrev pub unchanged : Outcome → State → List Slot → Change
+unchanged o s slots = record { outcome = o; state = s; at = 0; block = blockAt slots 0 }
+
+-- an outcome with the memory after it
+pub record Ended : Type 0 where
+  pub outcome : Outcome
+  pub memory : Memory
+
+-- what a change comes to on the slots that it was made for
+abbrev pub endedBy : Change → List Slot → List ℕ → List ℕ → Ended
+endedBy c slots payload queues =
+    record { outcome = c .outcome; memory = held (c .state) (setBlock slots (c .at) (c .block)) payload queues }
+
+-- what a result of the model comes to
+abbrev pub ended : Result → Ended
+ended r = record { outcome = outcomeIs (r .reply); memory = r .memory }
