@@ -4,7 +4,7 @@ use mathlib.Core.Path.{_≡_, refl, sym, ap, _∙_}
 use Prim.Native.Nat.{ℕ, zero, suc, _+_, _*_, _≤_, _<_}
 use native.Mathlib.Omega.{arith}
 use native.Mathlib.Nat.{add-zero, zero-add}
-use mathlib.Core.Bool.{Bool, true, false, not, _||_}
+use mathlib.Core.Bool.{Bool, true, false, not, _&&_, _||_}
 use mathlib.Core.List.{List, [], _∷_}
 use lib.Dec.{leb, eqb}
 use lib.ListN.{length}
@@ -131,13 +131,13 @@ unfolding nonZero
 zero-free [] v = refl
 zero-free (x ∷ l) v = rw (le-leb 1 x (v .0)) (zero-free l (v .1))
 
-record EntryIs (d : NodeState) : Type 0 where
-  status : oneOf (d .status) statuses ≡ true
-  behaviour : oneOf (d .behaviour) behaviours ≡ true
-  rates : nonZero (d .rates) ≡ true
-  fill : d .fill ≤ 4_096
-  few : d .pending ≤ 4
-  silent : eqb (d .status) busOff ≡ true → d .pending ≡ 0
+pub record EntryIs (d : NodeState) : Type 0 where
+  pub status : oneOf (d .status) statuses ≡ true
+  pub behaviour : oneOf (d .behaviour) behaviours ≡ true
+  pub rates : nonZero (d .rates) ≡ true
+  pub fill : d .fill ≤ 4_096
+  pub few : d .pending ≤ 4
+  pub silent : eqb (d .status) busOff ≡ true → d .pending ≡ 0
 
 entry-is : (d : NodeState) → validEntry d ≡ true → EntryIs d
 unfolding validEntry
@@ -195,9 +195,9 @@ at-nodes-valid (suc n) j s slots f =
     next i e = let q : j + suc i ≡ suc j + i = omega arith in rw q at e
 
 -- what the test says of one node
-record NodeIs (m : Memory) (j : ℕ) : Type 0 where
-  entry : EntryIs (entryAt m j)
-  slots : validSlots (entryAt m j .pending) (4 * j) j 0 (m .state .round) (m .slots) ≡ true
+pub record NodeIs (m : Memory) (j : ℕ) : Type 0 where
+  pub entry : EntryIs (entryAt m j)
+  pub slots : validSlots (entryAt m j .pending) (4 * j) j 0 (m .state .round) (m .slots) ≡ true
 
 node-is : (m : Memory) (j : ℕ) → validNode (m .state .round) j (entryAt m j) (m .slots) ≡ true → NodeIs m j
 unfolding validNode
@@ -233,19 +233,28 @@ valid-node m j t f o v =
 
 -- ---- the whole
 
-pub valid-good : (m : Memory) → Typed m → validState (m .state) (m .slots) ≡ true → Good m
+-- what the test says of the count and of each attached node
+pub valid-count : (m : Memory) → validState (m .state) (m .slots) ≡ true → (2 ≤ m .state .count) × (m .state .count ≤ 8)
 unfolding validState
-valid-good m t e =
+valid-count m e =
     let a = both _ (validNodes (m .state .count) 0 (m .state) (m .slots)) e in
     let b = both (leb 2 (m .state .count)) (leb (m .state .count) 8) (a .0) in
-    let least = leb-true 2 (m .state .count) (b .0) in
-    let most = leb-true (m .state .count) 8 (b .1) in
-    let at : (j : ℕ) → j < m .state .count → NodeIs m j =
-    λ j h. node-is m j (rw zero-add at (nodes-valid-at (m .state .count) 0 (m .state) (m .slots) (a .1) j h)) in
+    (leb-true 2 (m .state .count) (b .0), leb-true (m .state .count) 8 (b .1))
+
+pub valid-node-at : (m : Memory) → validState (m .state) (m .slots) ≡ true → (j : ℕ) → j < m .state .count → NodeIs m j
+unfolding validState
+valid-node-at m e j h =
+    let a = both (leb 2 (m .state .count) && leb (m .state .count) 8) (validNodes (m .state .count) 0 (m .state) (m .slots)) e in
+    node-is m j (rw zero-add at (nodes-valid-at (m .state .count) 0 (m .state) (m .slots) (a .1) j h))
+
+pub valid-good : (m : Memory) → Typed m → validState (m .state) (m .slots) ≡ true → Good m
+valid-good m t e =
+    let at = valid-node-at m e in
+    let most = valid-count m e .1 in
     record {
       typed = t;
       valid = record {
-        least = rw (view-length m) least;
+        least = rw (view-length m) (valid-count m e .0);
         most = rw (view-length m) most;
         round = rw (view-round m) (t .round);
         each = λ k h.

@@ -1,7 +1,7 @@
 // The pending slot (01: a place) by value.
 ghost use mathlib.Core.Path.{_≡_};
 ghost use Rattle.operation.specs.Kinds.{idOf};
-ghost use Rattle.slots.specs.Slots.{slotRow, contentOf, heldIn, slotOf, legalContent};
+ghost use Rattle.slots.specs.Slots.{slotRow, freeSlot, contentOf, heldIn, slotOf, legalContent};
 use operation::Operation;
 
 // What a pending frame needs besides its data: its sender, the round at which it was accepted, and the Transmit. kind is the
@@ -51,6 +51,13 @@ fn row(
         third,
         fourth,
     }
+}
+
+// A slot that holds nothing.
+pub fn free() -> Slot
+    ensures { λ r. ⌜ r ≡ freeSlot ⌝ }
+{
+    row(0, 0, 0, 0, 0, 0, 0, 0, 0, 0)
 }
 
 // What a slot holds.

@@ -1,0 +1,39 @@
+-- What a public call leaves: its answer, with the state in it, and the lent memory.
+-- Assumes nothing.
+use Prim.Native.Nat.{ℕ}
+use mathlib.Core.List.{List}
+use mathlib.Core.Bool.{cond}
+use lib.Dec.{eqb}
+use Rattle.slots.specs.declared.Slot.{Slot}
+use Rattle.plain_bus.specs.Round.{Injection, noError, injected}
+use Rattle.bus_state.specs.Memory.{held}
+use Rattle.bus_model.specs.Calls.{Result}
+use Rattle.outcome.specs.Outcome.{outcomeIs, answerOf, Ended}
+use Rattle.outcome.specs.declared.Answer.{Answer}
+use Rattle.bus.specs.declared.Started.{Started}
+use Rattle.bus.specs.declared.Kept.{Kept}
+
+pub record Left : Type 0 where
+  pub answer : Answer
+  pub slots : List Slot
+  pub payload : List ℕ
+  pub queues : List ℕ
+
+abbrev pub left : Answer → List Slot → List ℕ → List ℕ → Left
+left answer slots payload queues = record { answer = answer; slots = slots; payload = payload; queues = queues }
+
+-- what a result of the model leaves
+abbrev pub leaves : Result → Left
+leaves r =
+    left (answerOf (outcomeIs (r .reply)) (r .memory .state)) (r .memory .slots) (r .memory .payload) (r .memory .queues)
+
+-- what a start, and a call that changes no slot, come to
+abbrev pub startedBy : Started → List ℕ → List ℕ → Ended
+startedBy c payload queues = record { outcome = c .outcome; memory = held (c .state) (c .slots) payload queues }
+
+abbrev pub keptBy : Kept → List Slot → List ℕ → List ℕ → Ended
+keptBy c slots payload queues = record { outcome = c .outcome; memory = held (c .state) slots payload queues }
+
+-- the injection that three numbers stand for: none where the first is 0, else an error's code and the number of the node that detects it
+abbrev pub injectionFrom : ℕ → ℕ → ℕ → Injection
+injectionFrom present code detector = cond (eqb present 0) noError (injected code detector)

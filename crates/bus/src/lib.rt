@@ -1,0 +1,197 @@
+// The calls of the bus with the slots by value: the refusals 1 and 3 in front, then what the call does. The public calls load the
+// lent slots, call these, and put back the slots that changed.
+ghost use mathlib.Core.Path.{_≡_};
+ghost use lib.ListN.{length};
+ghost use Rattle.bus_state.specs.Memory.{held};
+ghost use Rattle.bus_model.specs.Primitives.{newEntry, newState};
+ghost use Rattle.bus_model.specs.Calls.{startIn, collectIn, bufferAfter};
+ghost use Rattle.outcome.specs.Outcome.{answerOf, ended};
+ghost use Rattle.bus.specs.Left.{startedBy, keptBy};
+use bus_state::NodeState;
+use bus_state::State;
+use outcome::Answer;
+use outcome::Change;
+use outcome::Outcome;
+use slots::Slot;
+
+pub const SLOTS: usize = 32;
+
+pub const PAYLOAD_BYTES: usize = 65536;
+
+pub const QUEUE_BYTES: usize = 32768;
+
+// The outcome of a start, with the state and all slots after it.
+pub struct Started {
+    pub outcome: Outcome,
+    pub state: State,
+    pub slots: [Slot; 32],
+}
+
+// The outcome of a call that changes no slot, with the state after it.
+pub struct Kept {
+    pub outcome: Outcome,
+    pub state: State,
+}
+
+fn new_entry() -> NodeState
+    ensures { λ r. ⌜ r ≡ newEntry ⌝ }
+{
+    NodeState {
+        rates: [500_000, 2_000_000, 10_000_000],
+        fill: 0,
+        status: operation::ERROR_ACTIVE,
+        behaviour: operation::BUFFER_AND_RETRANSMIT as u8,
+        pending: 0,
+    }
+}
+
+pub fn new_state(count: u32) -> State
+    ensures { λ r. ⌜ r ≡ newState count ⌝ }
+{
+    let entry = new_entry();
+    let nodes = [entry; 8];
+    State {
+        count,
+        round: 0,
+        nodes,
+    }
+}
+
+pub fn start(a: [Slot; 32], payload: &[u8], queues: &[u8], count: u32) -> Started
+    ensures { λ r. ⌜ startedBy r (now (payload .entry)) (now (queues .entry)) ≡ ended (startIn (held (newState 0) a (now (payload .entry)) (now (queues .entry))) count) ⌝ }
+{
+    if payload.len() != PAYLOAD_BYTES {
+        return Started {
+            outcome: Outcome::WrongMemory,
+            state: new_state(0),
+            slots: a,
+        };
+    }
+    if queues.len() != QUEUE_BYTES {
+        return Started {
+            outcome: Outcome::WrongMemory,
+            state: new_state(0),
+            slots: a,
+        };
+    }
+    if (2 <= count) & (count <= 8) {
+        let free = slots::free();
+        return Started {
+            outcome: Outcome::Accepted,
+            state: new_state(count),
+            slots: [free; 32],
+        };
+    }
+    Started {
+        outcome: Outcome::BadNodeCount,
+        state: new_state(0),
+        slots: a,
+    }
+}
+
+// The queue goes to the front of the caller's buffer.
+pub fn collect(
+    s: State,
+    a: [Slot; 32],
+    payload: &[u8],
+    queues: &[u8],
+    node: u32,
+    buffer: &mut [u8],
+) -> Kept
+    ensures kept { λ r. ⌜ keptBy r a (now (payload .entry)) (now (queues .entry)) ≡ ended (collectIn (held s a (now (payload .entry)) (now (queues .entry))) node (length (now (buffer .entry)))) ⌝ }
+    ensures written { λ r. ⌜ now (buffer .exit) ≡ bufferAfter (collectIn (held s a (now (payload .entry)) (now (queues .entry))) node (length (now (buffer .entry))) .reply) (now (buffer .entry)) ⌝ }
+{
+    if payload.len() != PAYLOAD_BYTES {
+        return Kept {
+            outcome: Outcome::WrongMemory,
+            state: s,
+        };
+    }
+    if queues.len() != QUEUE_BYTES {
+        return Kept {
+            outcome: Outcome::WrongMemory,
+            state: s,
+        };
+    }
+    if !bus_state::is_valid(s, a) {
+        return Kept {
+            outcome: Outcome::Invalid,
+            state: s,
+        };
+    }
+    if s.count <= node {
+        return Kept {
+            outcome: Outcome::NotAttached,
+            state: s,
+        };
+    }
+    let k = node as usize;
+    let d = bus_state::entry(s, k);
+    let fill = d.fill as usize;
+    if buffer.len() < fill {
+        return Kept {
+            outcome: Outcome::RoomTooSmall,
+            state: s,
+        };
+    }
+    let at = bus_state::QUEUE_CAPACITY as usize * k;
+    buffers::put(buffer, 0, &queues[at..at + fill]);
+    let empty = bus_state::with_fill(d, 0);
+    Kept {
+        outcome: Outcome::Collected(d.fill),
+        state: bus_state::with_entry(s, k, empty),
+    }
+}
+
+// For the public calls: an answer without the slots' part, and the parts of a change.
+
+pub fn wrong_memory(s: State) -> Answer
+    ensures { λ r. ⌜ r ≡ answerOf Outcome.WrongMemory s ⌝ }
+{
+    outcome::answer_of(Outcome::WrongMemory, s)
+}
+
+pub fn no_start() -> Answer
+    ensures { λ r. ⌜ r ≡ answerOf Outcome.WrongMemory (newState 0) ⌝ }
+{
+    outcome::answer_of(Outcome::WrongMemory, new_state(0))
+}
+
+pub fn answer_started(c: Started) -> Answer
+    ensures { λ r. ⌜ r ≡ answerOf (c .outcome) (c .state) ⌝ }
+{
+    let outcome = c.outcome;
+    outcome::answer_of(outcome, c.state)
+}
+
+pub fn slots_started(c: Started) -> [Slot; 32]
+    ensures { λ r. ⌜ r ≡ c .slots ⌝ }
+{
+    c.slots
+}
+
+pub fn answer_kept(c: Kept) -> Answer
+    ensures { λ r. ⌜ r ≡ answerOf (c .outcome) (c .state) ⌝ }
+{
+    let outcome = c.outcome;
+    outcome::answer_of(outcome, c.state)
+}
+
+pub fn answer_changed(c: Change) -> Answer
+    ensures { λ r. ⌜ r ≡ answerOf (c .outcome) (c .state) ⌝ }
+{
+    let outcome = c.outcome;
+    outcome::answer_of(outcome, c.state)
+}
+
+pub fn position_changed(c: Change) -> usize
+    ensures { λ r. ⌜ r ≡ c .at ⌝ }
+{
+    c.at
+}
+
+pub fn block_changed(c: Change) -> [Slot; 4]
+    ensures { λ r. ⌜ r ≡ c .block ⌝ }
+{
+    c.block
+}
