@@ -1,5 +1,4 @@
 // Prints the operations of a collected stream, one a line. `decode FILE` takes a file of at most 65,536 bytes.
-mod line;
 mod names;
 mod report;
 

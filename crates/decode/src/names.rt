@@ -1,5 +1,5 @@
 // The standard's names of the values that a field takes from a table. A value outside the table has none.
-use crate::line::Line;
+use lines::Line;
 use operation::ACK_ERROR;
 use operation::ARBITRATION_LOST_BEHAVIOR;
 use operation::BIT_ERROR;

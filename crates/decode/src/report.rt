@@ -1,7 +1,7 @@
 // A line for each operation and each fault: position, kind, then the fields by their names.
 // IDs, SDT, VCID, AF and data are in hexadecimal, all other numbers in decimal.
-use crate::line::Line;
 use crate::names;
+use lines::Line;
 use operation::Operation;
 
 const POSITION_WIDTH: usize = 6;

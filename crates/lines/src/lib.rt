@@ -3,7 +3,7 @@ use libc::STDOUT_FILENO;
 
 const SPACE: usize = 512;
 
-pub(crate) struct Line {
+pub struct Line {
     text: [u8; SPACE],
     length: usize,
 }
@@ -22,7 +22,7 @@ fn write_front(text: &[u8], n: usize) {
 }
 
 impl Line {
-    pub(crate) fn new() -> Self {
+    pub fn new() -> Self {
         Line {
             text: [0; SPACE],
             length: 0,
@@ -49,7 +49,7 @@ impl Line {
         line
     }
 
-    pub(crate) fn text(self, text: &[u8]) -> Self {
+    pub fn text(self, text: &[u8]) -> Self {
         let mut line = self;
         let mut i = 0;
         while i < text.len() {
@@ -70,7 +70,7 @@ impl Line {
     }
 
     // Blanks up to a column; the first column is 0.
-    pub(crate) fn column(self, column: usize) -> Self {
+    pub fn column(self, column: usize) -> Self {
         let length = self.length;
         if length < column {
             return self.blanks(column - length);
@@ -79,7 +79,7 @@ impl Line {
     }
 
     // A number, with blanks before it where it is shorter than the width.
-    pub(crate) fn decimal(self, x: u64, width: usize) -> Self {
+    pub fn decimal(self, x: u64, width: usize) -> Self {
         let mut digits = [0u8; 20];
         let n = io::decimal(x, &mut digits);
         let mut line = self;
@@ -90,48 +90,56 @@ impl Line {
     }
 
     // Two digits.
-    pub(crate) fn hex8(self, x: u8) -> Self {
+    pub fn hex8(self, x: u8) -> Self {
         self.put(digit(x / 16)).put(digit(x))
     }
 
     // Three digits.
-    pub(crate) fn hex12(self, x: u32) -> Self {
+    pub fn hex12(self, x: u32) -> Self {
         self.put(digit((x / 256 % 16) as u8)).hex8((x % 256) as u8)
     }
 
     // Eight digits.
-    pub(crate) fn hex32(self, x: u32) -> Self {
+    pub fn hex32(self, x: u32) -> Self {
         self.hex8((x / 16777216) as u8)
             .hex8((x / 65536 % 256) as u8)
             .hex8((x / 256 % 256) as u8)
             .hex8((x % 256) as u8)
     }
 
-    // Bytes, two digits each: two blanks before the first, one before each other.
-    pub(crate) fn bytes(self, bytes: &[u8]) -> Self {
+    // Bytes, two digits each, one blank between.
+    pub fn hex(self, bytes: &[u8]) -> Self {
         let mut line = self;
-        if 0 < bytes.len() {
-            line = line.put(b' ');
-        }
         let mut i = 0;
         while i < bytes.len() {
-            line = line.put(b' ').hex8(bytes[i]);
+            if 0 < i {
+                line = line.put(b' ');
+            }
+            line = line.hex8(bytes[i]);
             i += 1;
         }
         line
     }
 
+    // Bytes behind two blanks; nothing where there are none.
+    pub fn bytes(self, bytes: &[u8]) -> Self {
+        if 0 < bytes.len() {
+            return self.text(b"  ").hex(bytes);
+        }
+        self
+    }
+
     // The name of a field, two blanks before it and one behind it.
-    pub(crate) fn name(self, name: &[u8]) -> Self {
+    pub fn name(self, name: &[u8]) -> Self {
         self.text(b"  ").text(name).put(b' ')
     }
 
     // A field that is a number.
-    pub(crate) fn number(self, name: &[u8], x: u32, width: usize) -> Self {
+    pub fn number(self, name: &[u8], x: u32, width: usize) -> Self {
         self.name(name).decimal(x as u64, width)
     }
 
-    pub(crate) fn end(self) {
+    pub fn end(self) {
         self.put(b'\n').send();
     }
 }

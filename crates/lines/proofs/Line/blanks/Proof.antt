@@ -1,8 +1,8 @@
 -- The loop ends after n blanks. Nothing is asked of the line.
 use Prim.Native.Nat.{_≤_, _-_}
 use borrow.Author.Needs.{needs}
-use Rattle.decode.proofs.line.Line.blanks.Statement.{statement}
-use Rattle.decode.proofs.line.Line.blanks.Tie as tie
+use Rattle.lines.proofs.Line.blanks.Statement.{statement}
+use Rattle.lines.proofs.Line.blanks.Tie as tie
 
 abbrev Inv-loop : tie.InvT-loop
 Inv-loop n line₀ i₀ line i = i ≤ n

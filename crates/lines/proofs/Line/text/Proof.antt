@@ -2,24 +2,22 @@
 use Prim.Native.Nat.{_≤_, _-_}
 use borrow.Author.Needs.{needs}
 use lib.ListN.{length}
-use Rattle.decode.proofs.line.Line.bytes.Statement.{statement}
-use Rattle.decode.proofs.line.Line.bytes.Tie as tie
+use Rattle.lines.proofs.Line.text.Statement.{statement}
+use Rattle.lines.proofs.Line.text.Tie as tie
 
 abbrev Inv-loop : tie.InvT-loop
-Inv-loop bytes line₀ i₀ line i = i ≤ length bytes
+Inv-loop text line₀ i₀ line i = i ≤ length text
 
 abbrev μ-loop : tie.MeasureT-loop
-μ-loop bytes line₀ i₀ line i = length bytes - i
+μ-loop text line₀ i₀ line i = length text - i
 
-pub bytes-spec : {M : Type 1} → statement M
-bytes-spec =
+pub text-spec : {M : Type 1} → statement M
+text-spec =
     tie.close
     (tie.spec
     Inv-loop
     μ-loop
-    (λ c κs. search needs)
     (λ c. search needs)
-    (λ c κs. search needs)
     (λ c. search needs)
     (λ c κs. search needs)
     (λ c. search needs)

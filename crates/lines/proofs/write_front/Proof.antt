@@ -3,8 +3,8 @@ use borrow.Author.Needs.{needs}
 use denote.Ref.{now}
 use lib.Seq.{length-take-le}
 use mathlib.Core.Path.{sym}
-use Rattle.decode.proofs.line.write_front.Statement.{statement}
-use Rattle.decode.proofs.line.write_front.Tie as tie
+use Rattle.lines.proofs.write_front.Statement.{statement}
+use Rattle.lines.proofs.write_front.Tie as tie
 
 slice-aggregate-write-all : tie.Need-slice-aggregate-write-all
 slice-aggregate-write-all c = sym (length-take-le _ _ (search needs))
