@@ -41,7 +41,7 @@ found-by op payload rest least l p small c h enough =
     ∙ rw (code, h, size, le-leb least n enough, eq-eqb n n refl, l)
 
 -- a behaviour is 1 or 2
-behaviour-small : (value : ℕ) → oneOf value behaviours ≡ true → value ≤ 2
+pub behaviour-small : (value : ℕ) → oneOf value behaviours ≡ true → value ≤ 2
 unfolding oneOf
 behaviour-small value e = go (eqb value 1) refl (eqb value 2) refl e
   where

@@ -1,0 +1,9 @@
+pub mod Wakes
+pub mod Settings
+pub mod Checks
+pub mod Takes
+pub mod Walks
+pub mod Lays
+pub mod Carries
+pub mod Counts
+pub mod Submits

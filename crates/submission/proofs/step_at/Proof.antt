@@ -1,0 +1,62 @@
+-- What was read there, with its effect.
+use Rattle.decoder.proofs.Found.{found}
+use Rattle.submission.proofs.Takes.{read-fault, read-found, not-end, ended, fault-taken, operation-taken}
+use Rattle.submission.specs.Effects.{Taken}
+use borrow.Author.Needs.{needs}
+use denote.Ref.{now}
+use mathlib.Core.Path.{_≡_, refl, sym, _∙_}
+use native.Mathlib.Omega.{arith}
+use Rattle.submission.proofs.step_at.Statement.{statement}
+use Rattle.submission.proofs.step_at.Tie as tie
+
+sub-fault-effect : tie.Need-sub-fault-effect
+sub-fault-effect c =
+    let r = c .before .before .before in
+    let b = r .before .before in
+    let e = ended _ _ _ (read-fault (now (b .args .buffer)) (b .args .at) _ _ (sym (r .read .ensures) ∙ c .before .next .given .1)) refl (b .pre) in
+    search needs
+
+part-fault-effect-start : tie.Need-part-fault-effect-start
+part-fault-effect-start c =
+    let r = c .before .before .before in
+    let b = r .before .before in
+    let e = ended _ _ _ (read-fault (now (b .args .buffer)) (b .args .at) _ _ (sym (r .read .ensures) ∙ c .before .next .given .1)) refl (b .pre) in
+    search needs
+
+part-fault-effect-end : tie.Need-part-fault-effect-end
+part-fault-effect-end c =
+    let r = c .before .before .before in
+    let b = r .before .before in
+    let e = ended _ _ _ (read-fault (now (b .args .buffer)) (b .args .at) _ _ (sym (r .read .ensures) ∙ c .before .next .given .1)) refl (b .pre) in
+    search needs
+
+operation-effect-requires : tie.Need-operation-effect-requires
+operation-effect-requires c κs =
+    let r = c .before .before .before in
+    let b = r .before .before in
+    found (read-found (now (b .args .buffer)) (b .args .at) _ _ (sym (r .read .ensures) ∙ c .before .op .given .1)) .lawful
+
+returns : tie.Need-returns
+returns c =
+    let r = c .before .before in
+    let b = r .before .before in
+    absurd (not-end (now (b .args .buffer)) (b .args .at) (b .pre) (sym (r .read .ensures) ∙ c .enum-told .given .1))
+
+returns-2 : tie.Need-returns-2
+returns-2 c =
+    let r = c .before .before .before .before .before in
+    let b = r .before .before in
+    fault-taken (now (b .args .buffer)) (b .args .at) _ _ (b .pre) refl _ (read-fault (now (b .args .buffer)) (b .args .at) _ _ (sym (r .read .ensures) ∙ c .before .before .before .next .given .1)) (c .fault-effect .ensures)
+
+returns-3 : tie.Need-returns-3
+returns-3 c =
+    let r = c .before .before .before .before in
+    let b = r .before .before in
+    operation-taken (now (b .args .buffer)) (b .args .at) _ _ (b .pre) refl _ (read-found (now (b .args .buffer)) (b .args .at) _ _ (sym (r .read .ensures) ∙ c .before .before .op .given .1)) (c .operation-effect .ensures)
+
+pub step-at-spec : {M : Type 1} → statement M
+step-at-spec =
+    tie.close
+    (tie.spec (λ c κs. search needs) (λ c. search needs) (λ c. search needs) sub-fault-effect
+    part-fault-effect-start part-fault-effect-end (λ c κs. search needs) (λ c. search needs)
+    operation-effect-requires returns returns-2 returns-3)

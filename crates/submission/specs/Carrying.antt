@@ -1,0 +1,47 @@
+-- Carrying a submitted buffer out, once every step of it can be done: what each step leaves of the memory (01, "Handing in").
+-- Assumes nothing.
+use Prim.Native.Nat.{ℕ, zero, suc, _+_, _*_}
+use mathlib.Core.List.{List, [], _∷_}
+use mathlib.Core.Bool.{cond}
+use lib.ListN.{length, set, drop}
+use Rattle.buffers.specs.Parts.{over}
+use Rattle.operation.specs.Format.{headLength, encode}
+use Rattle.operation.specs.declared.Operation.the-variants.{Wakeup}
+use Rattle.decoder.specs.Stream.{Item, bytesOf}
+use Rattle.plain_bus.specs.Submit.{formatError}
+use Rattle.bus_state.specs.Memory.{Memory, bytesPerQueue, nodeState}
+use Rattle.bus_state.specs.Entries.{entryBehaviour, entryRates}
+use Rattle.bus_state.specs.declared.State.{State}
+use Rattle.bus_model.specs.Primitives.{entryAt, offAt, setEntry, putFrame, append, inTurn}
+use Rattle.bus_model.specs.Submit.{statusIn, wakeAt}
+use Rattle.submission.specs.Effects.{effectOf}
+use Rattle.submission.specs.Counting.{unreached, wokenAt}
+use Rattle.submission.specs.declared.Effect.{Effect}
+use Rattle.submission.specs.declared.Effect.the-variants.{Nothing, Transmit, Answer, SetRate, SetBehaviour, SetStatus, Wake}
+
+-- the memory after a step, by its effect and its bytes
+unfoldable pub memoryAfter : Memory → ℕ → Effect → List ℕ → Memory
+memoryAfter m k Nothing bytes = m
+memoryAfter m k (Transmit op) bytes = cond (offAt m k) m (putFrame m k op (drop (headLength op) bytes))
+memoryAfter m k Answer bytes = append m k (formatError bytes)
+memoryAfter m k (SetRate i rate) bytes = setEntry m k (entryRates (entryAt m k) (set (entryAt m k .rates) i rate))
+memoryAfter m k (SetBehaviour behaviour) bytes = setEntry m k (entryBehaviour (entryAt m k) behaviour)
+memoryAfter m k (SetStatus status) bytes = statusIn m k status
+memoryAfter m k Wake bytes = cond (offAt m k) m (inTurn (wakeAt k) 0 (m .state .count) m)
+
+-- and after all steps
+unfoldable pub memoryAfterAll : ℕ → List Item → Memory → Memory
+memoryAfterAll k [] m = m
+memoryAfterAll k (i ∷ is) m = memoryAfterAll k is (memoryAfter m k (effectOf i) (bytesOf i))
+
+-- bytes behind those of node j's queue
+abbrev pub queueWith : State → ℕ → List ℕ → List ℕ → List ℕ
+queueWith s j queues bytes = over queues (bytesPerQueue * j + nodeState s j .fill) bytes
+
+-- the queues after node j gets a Wakeup of node k, and after n nodes from number j on do
+unfoldable pub wakeupLaid : State → ℕ → ℕ → List ℕ → List ℕ
+wakeupLaid s k j queues = cond (unreached s k j) queues (queueWith s j queues (encode Wakeup []))
+
+unfoldable pub wakeupsLaid : State → ℕ → ℕ → ℕ → List ℕ → List ℕ
+wakeupsLaid s k j zero queues = queues
+wakeupsLaid s k j (suc n) queues = wakeupsLaid (wokenAt s k j) k (suc j) n (wakeupLaid s k j queues)
