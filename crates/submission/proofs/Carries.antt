@@ -5,9 +5,8 @@ use mathlib.Core.Bool.{Bool, true, false, cond}
 use mathlib.Core.List.{List, []}
 use Prim.Native.Nat.{ℕ, zero, suc, _+_, _*_, _<_}
 use native.Mathlib.Nat.{add-zero}
-use native.Mathlib.Omega.{arith}
 use lib.Dec.{eqb}
-use lib.ListN.{length, set, take, drop}
+use lib.ListN.{length, set, drop}
 use lib.Seq.{set-getD, paste-zero}
 use Rattle.buffers.specs.Parts.{over}
 use Rattle.operation.specs.Format.{headLength, header, encode}
@@ -20,8 +19,7 @@ use Rattle.slots.specs.declared.Slot.{Slot}
 use Rattle.slots.proofs.Blocks.{set-in-block}
 use Rattle.plain_bus.specs.Held.{busOff}
 use Rattle.plain_bus.specs.Submit.{formatError}
-use Rattle.bus_state.specs.Memory.{Memory, held, slotsPerNode, bytesPerSlot, bytesPerQueue, noNode, nodeState}
-use Rattle.bus_state.specs.Entries.{withEntry, entryFill}
+use Rattle.bus_state.specs.Memory.{held, slotsPerNode, bytesPerSlot, bytesPerQueue, noNode, nodeState}
 use Rattle.bus_state.specs.declared.State.{State}
 use Rattle.bus_model.specs.Primitives.{setEntry, fillSlot, putFrame, append, clearNode, inTurn}
 use Rattle.bus_model.specs.Submit.{statusOf, statusIn, wakeupAt, wakeAt}

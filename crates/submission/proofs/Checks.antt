@@ -8,9 +8,7 @@ use lib.Dec.{leb}
 use borrow.Author.Tests.{leb-true, leb-false}
 use Rattle.bus_state.specs.Memory.{slotsPerNode, bytesPerQueue, nodeState}
 use Rattle.bus_state.specs.declared.State.{State}
-use Rattle.operation.proofs.Tests.{false-is-true}
 use Rattle.submission.specs.Counting.{isOff, wakeupRoom, answerLength, checkTransmit, checkAnswer, checkWake}
-use Rattle.submission.specs.declared.Verdict.{Verdict}
 use Rattle.submission.specs.declared.Verdict.the-variants.{Goes, FourPending, QueueFull}
 
 pub transmit-few : (s : State) (k : ℕ) → checkTransmit s k ≡ Goes → isOff s k ≡ false → nodeState s k .pending < 4

@@ -1,9 +1,9 @@
 -- The model's steps by what the state alone decides: each goes on to the memory after it, or stops, as it is checked.
 -- Assumes nothing.
-use mathlib.Core.Path.{_≡_, refl, sym, ap, _∙_}
-use mathlib.Core.Bool.{Bool, true, false, cond, _&&_, _||_}
+use mathlib.Core.Path.{_≡_, refl, ap, _∙_}
+use mathlib.Core.Bool.{Bool, true, false, cond}
 use mathlib.Core.List.{List, [], _∷_}
-use Prim.Native.Nat.{ℕ, zero, suc, _+_, _-_}
+use Prim.Native.Nat.{ℕ, zero, suc, _-_}
 use lib.Dec.{leb, eqb}
 use lib.ListN.{length, set, drop}
 use Rattle.operation.specs.Format.{headLength, header, encode}
@@ -13,13 +13,12 @@ use Rattle.decoder.specs.Stream.{Item, operation, fault, bytesOf}
 use Rattle.plain_bus.specs.Held.{busOff}
 use Rattle.plain_bus.specs.Refusal.{Refusal, fourPending, queueFull}
 use Rattle.plain_bus.specs.Submit.{formatError, unanswered}
-use Rattle.bus_state.specs.Memory.{Memory, slotsPerNode, bytesPerQueue}
+use Rattle.bus_state.specs.Memory.{Memory, slotsPerNode}
 use Rattle.bus_state.specs.Entries.{entryBehaviour, entryRates}
-use Rattle.bus_state.specs.declared.State.{State}
 use Rattle.bus_model.specs.Primitives.{entryAt, offAt, setEntry, putFrame, fillSlot, append, clearNode}
 use Rattle.bus_model.specs.Submit.{Progress, goesOn, stops, roomAt, roomForEach, transmitIn, configureIn, statusOf, statusIn, wakeupAt, wakeupIn, answerIn, itemIn, itemsIn}
 use Rattle.submission.specs.Effects.{operationEffect, faultEffect, effectOf}
-use Rattle.submission.specs.Counting.{isOff, addPending, cleared, onlyStatusSet, statusSet, unreached, wakeupLength, wakeupRoom, wokenFrom, answerLength, checkTransmit, checkAnswer, checkWake, check, stateAfter, andThen, checkItems}
+use Rattle.submission.specs.Counting.{addPending, cleared, onlyStatusSet, statusSet, unreached, wakeupLength, wakeupRoom, wokenFrom, checkTransmit, checkAnswer, checkWake, check, stateAfter, andThen, checkItems}
 use Rattle.submission.specs.Carrying.{memoryAfter, memoryAfterAll}
 use Rattle.submission.specs.declared.Effect.{Effect}
 use Rattle.submission.specs.declared.Effect.the-variants.{Nothing, Transmit, Answer, SetRate, SetBehaviour, SetStatus, Wake}

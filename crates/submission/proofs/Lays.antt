@@ -1,22 +1,20 @@
 -- An operation written behind a position of a buffer lies over it from there on.
 -- Assumes nothing.
-use mathlib.Core.Path.{_≡_, refl, sym, ap, _∙_}
+use mathlib.Core.Path.{_≡_, ap, _∙_}
 use mathlib.Core.Bool.{true}
-use mathlib.Core.List.{List, [], _++_, append-assoc, append-nil}
+use mathlib.Core.List.{List, _++_, append-assoc, append-nil}
 use Prim.Native.Nat.{ℕ, _+_, _-_, _≤_}
 use native.Mathlib.Nat.{zero-add}
 use native.Mathlib.Omega.{arith}
 use lib.ListN.{length, take, drop, length-drop}
 use lib.Seq.{drop-drop, drop-length}
-use borrow.Rule.Slice.PartMut.{putMid, postOf}
+use borrow.Rule.Slice.PartMut.{putMid}
 use Rattle.buffers.specs.Parts.{over}
-use Rattle.operation.specs.Format.{headLength, dataLength, lengthOf, encode}
+use Rattle.operation.specs.Format.{dataLength, lengthOf, encode}
 use Rattle.operation.specs.Rules.{legal}
 use Rattle.operation.specs.declared.Operation.{Operation}
-use Rattle.operation.proofs.Sizes.{encode-length}
 use Rattle.decoder.proofs.Forward.{rest}
-use Rattle.encoder.specs.Writing.{answerOf, bufferAfter, writtenOf}
-use Rattle.encoder.specs.declared.Written.the-variants.{Done}
+use Rattle.encoder.specs.Writing.{writtenOf}
 use Rattle.encoder.proofs.Answers.{accepts}
 
 -- the part behind a position, changed from its start on

@@ -1,32 +1,27 @@
 -- A submitted buffer by what was found of it.
 -- Assumes nothing.
-use mathlib.Core.Path.{_≡_, refl, sym, ap, _∙_}
-use mathlib.Core.Bool.{Bool, true, not, _&&_}
+use mathlib.Core.Path.{_≡_, ap, _∙_}
+use mathlib.Core.Bool.{true, _&&_}
 use mathlib.Core.List.{List}
-use Prim.Native.Nat.{ℕ, _*_, _≤_, _<_}
-use native.Mathlib.Omega.{arith}
-use lib.Dec.{leb, ltb}
+use Prim.Native.Nat.{ℕ, _≤_, _<_}
+use lib.Dec.{leb}
 use lib.ListN.{length}
 use borrow.Author.Tests.{leb-true, lt-ltb, le-ltb}
 use Rattle.operation.proofs.Tests.{both}
 use Rattle.decoder.specs.Stream.{itemsOf}
-use Rattle.slots.specs.Slots.{setBlock}
 use Rattle.slots.specs.declared.Slot.{Slot}
 use Rattle.slots.proofs.Blocks.{same-block}
-use Rattle.plain_bus.specs.Refusal.{Refusal, notAttached, bufferTooLong, fourPending, queueFull}
 use Rattle.plain_bus.specs.Calls.{maxSubmit}
-use Rattle.bus_state.specs.Memory.{Memory, held, slotsPerNode}
+use Rattle.bus_state.specs.Memory.{Memory, held}
 use Rattle.bus_state.specs.Valid.{validNodes, validState}
 use Rattle.bus_state.specs.declared.State.{State}
-use Rattle.bus_model.specs.Submit.{itemsIn, goesOn}
-use Rattle.bus_model.specs.Calls.{Result, refusing, takenIn, submitted}
-use Rattle.outcome.specs.Outcome.{refusalIs, unchanged, endedBy, ended, Ended}
+use Rattle.bus_model.specs.Calls.{takenIn, submitted}
+use Rattle.outcome.specs.Outcome.{unchanged, endedBy, ended}
 use Rattle.outcome.specs.declared.Change.{Change}
 use Rattle.outcome.specs.declared.Outcome.{Outcome}
 use Rattle.outcome.specs.declared.Outcome.the-variants.{NotAttached, BufferTooLong, FourPending, QueueFull, Accepted}
 use Rattle.submission.specs.Counting.{checkItems}
 use Rattle.submission.specs.Carrying.{memoryAfterAll}
-use Rattle.submission.specs.declared.Verdict.{Verdict}
 use Rattle.submission.specs.declared.Verdict.the-variants as verdict
 use Rattle.submission.proofs.Counts.{gives, items-count}
 

@@ -2,21 +2,21 @@
 -- Assumes nothing.
 use mathlib.Core.Path.{_≡_, refl, sym, ap, _∙_}
 use mathlib.Core.Bool.{Bool, true, false, cond}
-use mathlib.Core.List.{List, _∷_}
+use mathlib.Core.List.{List}
 use Prim.Native.Nat.{ℕ, _+_, _-_, _≤_, _<_}
 use native.Mathlib.Omega.{arith}
 use lib.Dec.{eqb}
-use lib.ListN.{length, take, drop, length-take, length-drop}
+use lib.ListN.{length, take, drop, length-drop}
 use lib.Seq.{drop-drop, length-take-le}
-use borrow.Author.Tests.{eqb-true, eqb-false}
-use Rattle.operation.specs.Format.{headLength, dataLength, lengthOf}
+use borrow.Author.Tests.{eqb-false}
+use Rattle.operation.specs.Format.{headLength}
 use Rattle.operation.specs.Rules.{legal}
 use Rattle.operation.specs.Kinds.{isTransmit}
 use Rattle.operation.specs.declared.Operation.{Operation}
 use Rattle.operation.specs.declared.Operation.the-variants.{FormatError, CanTransmit, FdTransmit, XlTransmit, Confirm, ArbitrationLost, BusError, Configuration, Status, Wakeup}
 use Rattle.decoder.specs.Front.{front}
 use Rattle.decoder.specs.Reading.{cursorAt, placed, readAt, dataAt}
-use Rattle.decoder.specs.Stream.{Item, operation, fault, itemsOf}
+use Rattle.decoder.specs.Stream.{operation, fault}
 use Rattle.decoder.specs.declared.Cursor.{Cursor}
 use Rattle.decoder.specs.declared.Front.{Front}
 use Rattle.decoder.specs.declared.Front.the-variants.{End, Fault, Found}
@@ -27,9 +27,8 @@ use Rattle.decoder.proofs.Payload.{data-found}
 use Rattle.decoder.proofs.Streams.{unroll}
 use Rattle.plain_bus.specs.Submit.{unanswered}
 use Rattle.bus_model.proofs.Lawful.{transmit-short}
-use Rattle.submission.specs.Effects.{configurationEffect, operationEffect, faultEffect, SmallRate, DataFit, Taken}
-use Rattle.submission.specs.declared.Effect.{Effect}
-use Rattle.submission.specs.declared.Effect.the-variants.{Nothing, Transmit, Answer, SetRate, SetBehaviour, SetStatus, Wake}
+use Rattle.submission.specs.Effects.{operationEffect, faultEffect, SmallRate, DataFit, Taken}
+use Rattle.submission.specs.declared.Effect.the-variants.{Nothing, Transmit, Answer, SetRate, SetBehaviour}
 use Rattle.submission.specs.declared.Step.{Step}
 use Rattle.submission.proofs.Settings.{rate-kind}
 

@@ -6,7 +6,6 @@ use mathlib.Core.List.{List}
 use Prim.Native.Nat.{ℕ, zero, suc, _+_, _-_, _≤_, _<_}
 use native.Mathlib.Omega.{arith}
 use lib.Dec.{leb}
-use lib.ListN.{set}
 use lib.Seq.{getD-set-other}
 use borrow.Author.Tests.{leb-true, le-leb, lt-leb}
 use Rattle.operation.proofs.Tests.{both}

@@ -13,7 +13,7 @@ use Rattle.plain_bus.specs.Held.{busOff}
 use Rattle.plain_bus.proofs.Whole.{items-nil}
 use Rattle.bus_state.specs.Memory.{Memory}
 use Rattle.bus_state.specs.declared.State.{State}
-use Rattle.submission.specs.Effects.{effectOf, Taken}
+use Rattle.submission.specs.Effects.{Taken}
 use Rattle.submission.specs.Counting.{isOff, addFill, addPending, cleared, onlyStatusSet, statusSet, unreached, wokenAt, wokenFrom, check, stateAfter, andThen, checkItems}
 use Rattle.submission.specs.Carrying.{memoryAfter, memoryAfterAll}
 use Rattle.submission.specs.declared.Effect.{Effect}

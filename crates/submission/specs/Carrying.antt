@@ -3,7 +3,7 @@
 use Prim.Native.Nat.{ℕ, zero, suc, _+_, _*_}
 use mathlib.Core.List.{List, [], _∷_}
 use mathlib.Core.Bool.{cond}
-use lib.ListN.{length, set, drop}
+use lib.ListN.{set, drop}
 use Rattle.buffers.specs.Parts.{over}
 use Rattle.operation.specs.Format.{headLength, encode}
 use Rattle.operation.specs.declared.Operation.the-variants.{Wakeup}

@@ -11,7 +11,8 @@ ghost use Rattle.buffers.specs.Parts.{over};
 ghost use Rattle.decoder.specs.Stream.{itemsOf};
 ghost use Rattle.slots.specs.Slots.{slotOf, setBlock};
 ghost use Rattle.slots.specs.declared.Slot.{Slot};
-ghost use Rattle.plain_bus.specs.Submit.{formatError, unanswered};
+ghost use Rattle.plain_bus.specs.Submit.{formatError};
+ghost use Rattle.plain_bus.specs.Calls.{maxSubmit};
 ghost use Rattle.bus_state.specs.Memory.{held, nodeState, slotsPerNode, bytesPerSlot, bytesPerQueue, payloadBytes, queueBytes};
 ghost use Rattle.bus_state.specs.Valid.{validState};
 ghost use Rattle.bus_model.specs.Calls.{submitted};
@@ -28,7 +29,7 @@ use outcome::Outcome;
 use slots::Slot;
 
 // What an item of a buffer does.
-pub enum Effect {
+enum Effect {
     Nothing,
     Transmit(Operation),
     Answer,
@@ -39,22 +40,22 @@ pub enum Effect {
 }
 
 // What an item does, and where it ends.
-pub struct Step {
-    pub effect: Effect,
-    pub end: usize,
+struct Step {
+    effect: Effect,
+    end: usize,
 }
 
 // Whether a step can be done, or its refusal.
-pub enum Verdict {
+enum Verdict {
     Goes,
     FourPending,
     QueueFull,
 }
 
 // The state and the sender's four slots after some steps.
-pub struct Carried {
-    pub state: State,
-    pub block: [Slot; 4],
+struct Carried {
+    state: State,
+    block: [Slot; 4],
 }
 
 // The most bytes of a buffer.
@@ -65,11 +66,11 @@ const ANSWER_HEAD: usize = 10;
 
 const WAKEUP_LENGTH: usize = 8;
 
-const QUEUE_CAPACITY: usize = 4096;
+const QUEUE_CAPACITY: usize = bus_state::QUEUE_CAPACITY as usize;
 
 const BYTES_PER_SLOT: usize = 2048;
 
-const SLOTS_PER_NODE: usize = 4;
+const SLOTS_PER_NODE: usize = bus_state::SLOTS_PER_NODE as usize;
 
 // ---- what an item does
 
@@ -299,7 +300,7 @@ fn check_transmit(s: State, k: usize) -> Verdict
 }
 
 fn check_answer(s: State, k: usize, size: usize) -> Verdict
-    requires { ⌜ (k < 8) × (size ≤ 4086) ⌝ }
+    requires { ⌜ (k < 8) × (size ≤ maxSubmit) ⌝ }
     ensures { λ r. ⌜ r ≡ checkAnswer s k size ⌝ }
 {
     let d = bus_state::entry(s, k);
@@ -324,7 +325,7 @@ fn check_wake(s: State, k: usize) -> Verdict
 
 // Whether a step of so many bytes can be done.
 fn check_step(s: State, k: usize, effect: Effect, size: usize) -> Verdict
-    requires { ⌜ (k < 8) × (s .count ≤ 8) × (size ≤ 4086) ⌝ }
+    requires { ⌜ (k < 8) × (s .count ≤ 8) × (size ≤ maxSubmit) ⌝ }
     ensures { λ r. ⌜ r ≡ check s k effect size ⌝ }
 {
     match effect {
@@ -340,7 +341,7 @@ fn check_step(s: State, k: usize, effect: Effect, size: usize) -> Verdict
 
 // The state after a step that can be done.
 fn state_after(s: State, k: usize, effect: Effect, size: usize) -> State
-    requires { ⌜ (k < 8) × (s .count ≤ 8) × (size ≤ 4086) ⌝ }
+    requires { ⌜ (k < 8) × (s .count ≤ 8) × (size ≤ maxSubmit) ⌝ }
     requires { ⌜ check s k effect size ≡ Verdict.Goes ⌝ }
     requires { ⌜ SmallRate effect ⌝ }
     ensures { λ r. ⌜ r ≡ stateAfter s k effect size ⌝ }
@@ -368,7 +369,7 @@ fn state_after(s: State, k: usize, effect: Effect, size: usize) -> State
 
 // Whether a buffer is taken: the first step that can't be done decides.
 fn check_buffer(s: State, k: usize, buffer: &[u8]) -> Verdict
-    requires { ⌜ (k < 8) × (s .count ≤ 8) × (length (now buffer) ≤ 4086) ⌝ }
+    requires { ⌜ (k < 8) × (s .count ≤ 8) × (length (now buffer) ≤ maxSubmit) ⌝ }
     ensures { λ r. ⌜ r ≡ checkItems k (itemsOf (now (buffer .entry))) s ⌝ }
 {
     let mut state = s;
@@ -405,7 +406,7 @@ fn lay_wakeup(queues: &mut [u8], at: usize)
 
 // Lays a Format Error that answers some bytes over a buffer from a position on.
 fn lay_format_error(queues: &mut [u8], at: usize, bytes: &[u8])
-    requires { ⌜ (length (now bytes) ≤ 4086) × (at + answerLength (length (now bytes)) ≤ length (now queues)) ⌝ }
+    requires { ⌜ (length (now bytes) ≤ maxSubmit) × (at + answerLength (length (now bytes)) ≤ length (now queues)) ⌝ }
     ensures { λ _. ⌜ now (queues .exit) ≡ over (now (queues .entry)) at (formatError (now (bytes .entry))) ⌝ }
 {
     encoder::write_format_error(bytes.len() as u16, bytes, &mut queues[at..]);
@@ -488,7 +489,7 @@ fn carry_step(
     payload: &mut [u8],
     queues: &mut [u8],
 ) -> Carried
-    requires { ⌜ (k < 8) × (s .count ≤ 8) × (at < step .end) × (step .end ≤ length (now buffer)) × (length (now buffer) ≤ 4086) ⌝ }
+    requires { ⌜ (k < 8) × (s .count ≤ 8) × (at < step .end) × (step .end ≤ length (now buffer)) × (length (now buffer) ≤ maxSubmit) ⌝ }
     requires { ⌜ (length (now payload) ≡ payloadBytes) × (length (now queues) ≡ queueBytes) ⌝ }
     requires { ⌜ (check s k (step .effect) (step .end - at) ≡ Verdict.Goes) × SmallRate (step .effect) × DataFit (step .effect) (now buffer) at (step .end) ⌝ }
     ensures { λ r. ⌜ ((slots : List Slot) → held (r .state) (setBlock slots (slotsPerNode * k) (r .block)) (now (payload .exit)) (now (queues .exit)) ≡ memoryAfter (held s (setBlock slots (slotsPerNode * k) block) (now (payload .entry)) (now (queues .entry))) k (step .effect) (take (step .end - at) (drop at (now (buffer .entry))))) ⌝ }
@@ -539,7 +540,7 @@ fn carry_buffer(
     payload: &mut [u8],
     queues: &mut [u8],
 ) -> Carried
-    requires { ⌜ (k < 8) × (s .count ≤ 8) × (length (now buffer) ≤ 4086) ⌝ }
+    requires { ⌜ (k < 8) × (s .count ≤ 8) × (length (now buffer) ≤ maxSubmit) ⌝ }
     requires { ⌜ (length (now payload) ≡ payloadBytes) × (length (now queues) ≡ queueBytes) ⌝ }
     requires { ⌜ checkItems k (itemsOf (now buffer)) s ≡ Verdict.Goes ⌝ }
     ensures { λ r. ⌜ ((slots : List Slot) → held (r .state) (setBlock slots (slotsPerNode * k) (r .block)) (now (payload .exit)) (now (queues .exit)) ≡ memoryAfterAll k (itemsOf (now (buffer .entry))) (held s (setBlock slots (slotsPerNode * k) four) (now (payload .entry)) (now (queues .entry)))) ⌝ }

@@ -1,7 +1,7 @@
 -- The entry read, with its fill grown, is stored.
 use Rattle.bus_state.specs.declared.NodeState.{NodeState}
 use borrow.Author.Needs.{needs}
-use mathlib.Core.Path.{refl, ap}
+use mathlib.Core.Path.{ap}
 use native.Mathlib.Omega.{arith}
 use Rattle.submission.proofs.add_fill.Statement.{statement}
 use Rattle.submission.proofs.add_fill.Tie as tie

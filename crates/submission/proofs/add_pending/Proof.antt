@@ -1,7 +1,7 @@
 -- The entry read, with one pending frame more, is stored.
 use Rattle.bus_state.specs.declared.NodeState.{NodeState}
 use borrow.Author.Needs.{needs}
-use mathlib.Core.Path.{refl, ap}
+use mathlib.Core.Path.{ap}
 use native.Mathlib.Omega.{arith}
 use Rattle.submission.proofs.add_pending.Statement.{statement}
 use Rattle.submission.proofs.add_pending.Tie as tie

@@ -1,8 +1,7 @@
 -- The Format Error is laid at the queue's fill, which then grows.
 use Rattle.bus_state.specs.declared.NodeState.{NodeState}
 use borrow.Author.Needs.{needs}
-use mathlib.Core.Path.{refl, ap}
-use native.Mathlib.Omega.{arith}
+use mathlib.Core.Path.{ap}
 use Rattle.submission.proofs.answer.Statement.{statement}
 use Rattle.submission.proofs.answer.Tie as tie
 

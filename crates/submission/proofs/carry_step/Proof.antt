@@ -6,7 +6,7 @@ use Rattle.submission.specs.Counting.{check}
 use borrow.Author.Needs.{needs}
 use denote.Ref.{now}
 use lib.ListN.{length}
-use mathlib.Core.Path.{_≡_, refl, sym, _∙_}
+use mathlib.Core.Path.{_≡_, sym, _∙_}
 use native.Mathlib.Omega.{arith}
 use Rattle.submission.proofs.carry_step.Statement.{statement}
 use Rattle.submission.proofs.carry_step.Tie as tie

@@ -2,7 +2,6 @@
 use Rattle.submission.specs.Counting.{checkAnswer}
 use borrow.Author.Needs.{needs}
 use borrow.Author.Tests.{le-leb, lt-leb}
-use mathlib.Core.Path.{refl}
 use Rattle.submission.proofs.check_answer.Statement.{statement}
 use Rattle.submission.proofs.check_answer.Tie as tie
 

@@ -3,7 +3,7 @@ use Prim.Native.Nat.{_≤_, _-_}
 use Rattle.decoder.specs.Stream.{itemsOf}
 use Rattle.submission.proofs.Walks.{count-kept, check-end, check-fails, check-goes}
 use Rattle.submission.specs.Counting.{checkItems}
-use Rattle.submission.specs.declared.Verdict.the-variants.{Goes, FourPending, QueueFull}
+use Rattle.submission.specs.declared.Verdict.the-variants.{FourPending, QueueFull}
 use borrow.Author.Needs.{needs}
 use denote.Ref.{now}
 use lib.ListN.{length, drop}

@@ -1,7 +1,6 @@
 -- Each effect by its own check.
 use Rattle.submission.specs.Counting.{check}
 use borrow.Author.Needs.{needs}
-use mathlib.Core.Path.{refl}
 use Rattle.submission.proofs.check_step.Statement.{statement}
 use Rattle.submission.proofs.check_step.Tie as tie
 

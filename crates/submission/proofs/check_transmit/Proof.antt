@@ -2,7 +2,6 @@
 use Rattle.submission.specs.Counting.{checkTransmit}
 use borrow.Author.Needs.{needs}
 use borrow.Author.Tests.{eq-eqb, ne-eqb, le-leb, lt-leb}
-use mathlib.Core.Path.{refl}
 use Rattle.submission.proofs.check_transmit.Statement.{statement}
 use Rattle.submission.proofs.check_transmit.Tie as tie
 

@@ -1,7 +1,6 @@
 -- By the status and the room in the queues.
 use Rattle.submission.specs.Counting.{checkWake}
 use borrow.Author.Needs.{needs}
-use mathlib.Core.Path.{refl}
 use Rattle.submission.proofs.check_wake.Statement.{statement}
 use Rattle.submission.proofs.check_wake.Tie as tie
 

@@ -1,7 +1,6 @@
 -- By the kind.
 use Rattle.submission.proofs.Settings.{behaviour-byte, rate-kind}
 use borrow.Author.Tests.{eq-eqb, ne-eqb}
-use mathlib.Core.Path.{refl}
 use borrow.Author.Needs.{needs}
 use Rattle.submission.proofs.configuration_effect.Statement.{statement}
 use Rattle.submission.proofs.configuration_effect.Tie as tie

@@ -1,7 +1,6 @@
 -- By the two tests.
 use Rattle.submission.specs.Effects.{faultEffect}
 use borrow.Author.Needs.{needs}
-use mathlib.Core.Path.{refl}
 use Rattle.submission.proofs.fault_effect.Statement.{statement}
 use Rattle.submission.proofs.fault_effect.Tie as tie
 

@@ -1,6 +1,5 @@
 -- The status of the entry read.
 use borrow.Author.Needs.{needs}
-use mathlib.Core.Path.{refl}
 use Rattle.submission.proofs.is_off.Statement.{statement}
 use Rattle.submission.proofs.is_off.Tie as tie
 

@@ -1,6 +1,5 @@
 -- The sender itself, or a node that is Bus-Off.
 use borrow.Author.Needs.{needs}
-use mathlib.Core.Path.{refl}
 use Rattle.submission.proofs.is_unreached.Statement.{statement}
 use Rattle.submission.proofs.is_unreached.Tie as tie
 

@@ -1,7 +1,6 @@
 -- Each kind has its effect.
 use Rattle.submission.specs.Effects.{operationEffect}
 use borrow.Author.Needs.{needs}
-use mathlib.Core.Path.{refl, sym, ap, _∙_}
 use Rattle.submission.proofs.operation_effect.Statement.{statement}
 use Rattle.submission.proofs.operation_effect.Tie as tie
 

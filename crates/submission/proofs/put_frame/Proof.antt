@@ -1,7 +1,7 @@
 -- The slot is set and the data are laid before the entry is stored.
 use Rattle.bus_state.specs.declared.NodeState.{NodeState}
 use borrow.Author.Needs.{needs}
-use mathlib.Core.Path.{refl, ap}
+use mathlib.Core.Path.{ap}
 use native.Mathlib.Omega.{arith}
 use Rattle.submission.proofs.put_frame.Statement.{statement}
 use Rattle.submission.proofs.put_frame.Tie as tie

@@ -1,6 +1,5 @@
 -- The entry read, with its behaviour, is stored.
 use borrow.Author.Needs.{needs}
-use mathlib.Core.Path.{refl}
 use Rattle.submission.proofs.set_behaviour.Statement.{statement}
 use Rattle.submission.proofs.set_behaviour.Tie as tie
 

@@ -1,6 +1,5 @@
 -- The entry read, with its baud rate, is stored.
 use borrow.Author.Needs.{needs}
-use mathlib.Core.Path.{refl}
 use Rattle.submission.proofs.set_rate.Statement.{statement}
 use Rattle.submission.proofs.set_rate.Tie as tie
 

@@ -2,7 +2,6 @@
 use Rattle.submission.specs.Counting.{statusSet}
 use borrow.Author.Needs.{needs}
 use borrow.Author.Tests.{eq-eqb, ne-eqb}
-use mathlib.Core.Path.{refl}
 use Rattle.submission.proofs.set_status.Statement.{statement}
 use Rattle.submission.proofs.set_status.Tie as tie
 

@@ -2,7 +2,7 @@
 use Rattle.submission.proofs.Checks.{transmit-few, answer-fits, wake-room}
 use Rattle.submission.specs.Counting.{check, stateAfter}
 use borrow.Author.Needs.{needs}
-use mathlib.Core.Path.{refl, sym, _∙_}
+use mathlib.Core.Path.{sym, _∙_}
 use native.Mathlib.Omega.{arith}
 use Rattle.submission.proofs.state_after.Statement.{statement}
 use Rattle.submission.proofs.state_after.Tie as tie

@@ -1,11 +1,9 @@
 -- What was read there, with its effect.
 use Rattle.decoder.proofs.Found.{found}
 use Rattle.submission.proofs.Takes.{read-fault, read-found, not-end, ended, fault-taken, operation-taken}
-use Rattle.submission.specs.Effects.{Taken}
 use borrow.Author.Needs.{needs}
 use denote.Ref.{now}
-use mathlib.Core.Path.{_≡_, refl, sym, _∙_}
-use native.Mathlib.Omega.{arith}
+use mathlib.Core.Path.{refl, sym, _∙_}
 use Rattle.submission.proofs.step_at.Statement.{statement}
 use Rattle.submission.proofs.step_at.Tie as tie
 

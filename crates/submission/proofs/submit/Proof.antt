@@ -4,7 +4,7 @@ use Rattle.slots.proofs.Blocks.{same-block}
 use Rattle.submission.proofs.Submits.{count-small, not-attached, too-long, four-pending, queue-full, taken}
 use borrow.Author.Needs.{needs}
 use denote.Ref.{now}
-use mathlib.Core.Path.{_≡_, refl, sym, _∙_}
+use mathlib.Core.Path.{sym, _∙_}
 use native.Mathlib.Omega.{arith}
 use Rattle.submission.proofs.submit.Statement.{statement}
 use Rattle.submission.proofs.submit.Tie as tie

@@ -4,7 +4,7 @@ use Rattle.bus_state.specs.declared.NodeState.{NodeState}
 use Rattle.submission.proofs.Wakes.{room-end, room-bad, room-good}
 use Rattle.submission.specs.Counting.{wakeupRoom}
 use borrow.Author.Needs.{needs}
-use mathlib.Core.Path.{_≡_, refl, sym, ap, _∙_}
+use mathlib.Core.Path.{_≡_, sym, ap, _∙_}
 use native.Mathlib.Numerals.{add-one}
 use native.Mathlib.Omega.{arith}
 use Rattle.submission.proofs.wakeup_has_room.Statement.{statement}

@@ -1,7 +1,6 @@
 -- Nothing where the Wakeup does not go.
 use Rattle.submission.specs.Counting.{wakeupLength}
 use borrow.Author.Needs.{needs}
-use mathlib.Core.Path.{refl}
 use native.Mathlib.Omega.{arith}
 use Rattle.submission.proofs.wakeup_length.Statement.{statement}
 use Rattle.submission.proofs.wakeup_length.Tie as tie

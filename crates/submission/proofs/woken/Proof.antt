@@ -4,7 +4,7 @@ use Rattle.submission.proofs.Wakes.{room-here, room-next, woken-step, w
 use Rattle.submission.specs.Counting.{wakeupRoom, wokenFrom}
 use borrow.Author.Needs.{needs}
 use mathlib.Core.Bool.{true}
-use mathlib.Core.Path.{_≡_, refl, sym, _∙_}
+use mathlib.Core.Path.{_≡_, sym, _∙_}
 use native.Mathlib.Numerals.{add-one}
 use native.Mathlib.Omega.{arith}
 use Rattle.submission.proofs.woken.Statement.{statement}

@@ -1,8 +1,7 @@
 -- Eight bytes more where the Wakeup goes.
 use Rattle.submission.specs.Counting.{wakeupLength, wokenAt}
 use borrow.Author.Needs.{needs}
-use mathlib.Core.Path.{refl, sym, _∙_}
-use native.Mathlib.Omega.{arith}
+use mathlib.Core.Path.{sym, _∙_}
 use Rattle.submission.proofs.woken_at.Statement.{statement}
 use Rattle.submission.proofs.woken_at.Tie as tie
 
