@@ -1,11 +1,12 @@
 // The calls of the bus with the slots by value: the refusals 1 and 3 in front, then what the call does. The public calls load the
 // lent slots, call these, and put back the slots that changed.
 ghost use mathlib.Core.Path.{_≡_};
+ghost use Prim.Native.Nat.{_+_, _≤_};
 ghost use lib.ListN.{length};
 ghost use Rattle.bus_state.specs.Memory.{held};
 ghost use Rattle.bus_model.specs.Primitives.{newEntry, newState};
-ghost use Rattle.bus_model.specs.Calls.{startIn, collectIn, bufferAfter};
-ghost use Rattle.outcome.specs.Outcome.{answerOf, ended};
+ghost use Rattle.bus_model.specs.Calls.{startIn, submitIn, collectIn, bufferAfter};
+ghost use Rattle.outcome.specs.Outcome.{answerOf, endedBy, ended};
 ghost use Rattle.bus.specs.Left.{startedBy, keptBy};
 use bus_state::NodeState;
 use bus_state::State;
@@ -87,6 +88,29 @@ pub fn start(a: [Slot; 32], payload: &[u8], queues: &[u8], count: u32) -> Starte
         state: new_state(0),
         slots: a,
     }
+}
+
+pub fn submit(
+    s: State,
+    a: [Slot; 32],
+    payload: &mut [u8],
+    queues: &mut [u8],
+    node: u32,
+    buffer: &[u8],
+) -> Change
+    ensures ended { λ r. ⌜ endedBy r a (now (payload .exit)) (now (queues .exit)) ≡ ended (submitIn (held s a (now (payload .entry)) (now (queues .entry))) node (now (buffer .entry))) ⌝ }
+    ensures inside { λ r. ⌜ r .at + 4 ≤ 32 ⌝ }
+{
+    if payload.len() != PAYLOAD_BYTES {
+        return outcome::unchanged(Outcome::WrongMemory, s, a);
+    }
+    if queues.len() != QUEUE_BYTES {
+        return outcome::unchanged(Outcome::WrongMemory, s, a);
+    }
+    if !bus_state::is_valid(s, a) {
+        return outcome::unchanged(Outcome::Invalid, s, a);
+    }
+    submission::submit(s, a, payload, queues, node, buffer)
 }
 
 // The queue goes to the front of the caller's buffer.

@@ -10,7 +10,7 @@ use borrow.Author.Tests.{leb-true, lt-ltb, le-ltb}
 use Rattle.operation.proofs.Tests.{both}
 use Rattle.decoder.specs.Stream.{itemsOf}
 use Rattle.slots.specs.declared.Slot.{Slot}
-use Rattle.slots.proofs.Blocks.{same-block}
+use Rattle.outcome.proofs.Endings.{unchanged-ends}
 use Rattle.plain_bus.specs.Calls.{maxSubmit}
 use Rattle.bus_state.specs.Memory.{Memory, held}
 use Rattle.bus_state.specs.Valid.{validNodes, validState}
@@ -18,7 +18,6 @@ use Rattle.bus_state.specs.declared.State.{State}
 use Rattle.bus_model.specs.Calls.{takenIn, submitted}
 use Rattle.outcome.specs.Outcome.{unchanged, endedBy, ended}
 use Rattle.outcome.specs.declared.Change.{Change}
-use Rattle.outcome.specs.declared.Outcome.{Outcome}
 use Rattle.outcome.specs.declared.Outcome.the-variants.{NotAttached, BufferTooLong, FourPending, QueueFull, Accepted}
 use Rattle.submission.specs.Counting.{checkItems}
 use Rattle.submission.specs.Carrying.{memoryAfterAll}
@@ -31,12 +30,6 @@ unfolding validState
 count-small s a v =
     let p = both (leb 2 (s .count) && leb (s .count) 8) (validNodes (s .count) 0 s a) v in
     leb-true (s .count) 8 (both (leb 2 (s .count)) (leb (s .count) 8) (p .0) .1)
-
--- what changes nothing leaves the memory as it was
-unchanged-ends : (o : Outcome) (s : State) (a : List Slot) (p q : List ℕ) {c : Change} → c ≡ unchanged o s a
-    → endedBy c a p q ≡ record { outcome = o; memory = held s a p q }
-unchanged-ends o s a p q e =
-    ap (λ (x : Change). endedBy x a p q) e ∙ ap (λ (l : List Slot). record { outcome = o; memory = held s l p q }) (same-block a 0)
 
 module _ (s : State) (a : List Slot) (p q : List ℕ) (k : ℕ) (buffer : List ℕ) where
   pub not-attached : {c : Change} → s .count ≤ k → c ≡ unchanged NotAttached s a → endedBy c a p q ≡ ended (submitted (held s a p q) k buffer)

@@ -1,0 +1,17 @@
+-- What changes nothing leaves the memory as it was.
+-- Assumes nothing.
+use mathlib.Core.Path.{_≡_, ap, _∙_}
+use mathlib.Core.List.{List}
+use Prim.Native.Nat.{ℕ}
+use Rattle.slots.proofs.Blocks.{same-block}
+use Rattle.slots.specs.declared.Slot.{Slot}
+use Rattle.bus_state.specs.Memory.{held}
+use Rattle.bus_state.specs.declared.State.{State}
+use Rattle.outcome.specs.Outcome.{unchanged, endedBy}
+use Rattle.outcome.specs.declared.Change.{Change}
+use Rattle.outcome.specs.declared.Outcome.{Outcome}
+
+pub unchanged-ends : (o : Outcome) (s : State) (a : List Slot) (p q : List ℕ) {c : Change} → c ≡ unchanged o s a
+    → endedBy c a p q ≡ record { outcome = o; memory = held s a p q }
+unchanged-ends o s a p q e =
+    ap (λ (x : Change). endedBy x a p q) e ∙ ap (λ (l : List Slot). record { outcome = o; memory = held s l p q }) (same-block a 0)
