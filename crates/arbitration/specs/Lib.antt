@@ -1,0 +1,4 @@
+pub mod Injections
+pub mod Winner
+pub mod Owed
+pub mod After
