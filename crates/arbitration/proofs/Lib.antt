@@ -3,3 +3,7 @@ pub mod Scan
 pub mod Moves
 pub mod Told
 pub mod Lengths
+pub mod Sound
+pub mod Rooms
+pub mod Wrong
+pub mod Settled

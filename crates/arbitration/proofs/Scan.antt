@@ -6,10 +6,9 @@ use Prim.Native.Nat.{ℕ, suc, _+_, _-_, _*_, _≤_, _<_}
 use native.Mathlib.Omega.{arith}
 use Rattle.slots.specs.declared.Slot.{Slot}
 use Rattle.plain_bus.specs.Order.{rank}
-use Rattle.bus_state.specs.Memory.{nodeState}
-use Rattle.bus_state.specs.declared.State.{State}
+use Rattle.bus_state.specs.declared.NodeState.{NodeState}
 use Rattle.arbitration.specs.declared.Winner.{Winner}
-use Rattle.arbitration.specs.Winner.{heldAt, better, bestOf, bestFrom}
+use Rattle.arbitration.specs.Winner.{heldAt, entryOf, better, bestOf, bestFrom}
 
 -- one frame, and those after it
 pub frames-next : (a : List Slot) (j q n : ℕ) (w : Winner) → q < n
@@ -26,15 +25,15 @@ frames-end a j q n w h =
     ap (λ (i : ℕ). bestOf a j q i w) k
 
 -- one node, and those after it
-pub nodes-next : (s : State) (a : List Slot) (j n : ℕ) (w : Winner) → j < n
-    → bestFrom s a j (n - j) w ≡ bestFrom s a (suc j) (n - suc j) (bestOf a j 0 (nodeState s j .pending) w)
+pub nodes-next : (nodes : List NodeState) (a : List Slot) (j n : ℕ) (w : Winner) → j < n
+    → bestFrom nodes a j (n - j) w ≡ bestFrom nodes a (suc j) (n - suc j) (bestOf a j 0 (entryOf nodes j .pending) w)
 unfolding bestFrom
-nodes-next s a j n w h =
+nodes-next nodes a j n w h =
     let k : n - j ≡ suc (n - suc j) = omega arith in
-    ap (λ (i : ℕ). bestFrom s a j i w) k
+    ap (λ (i : ℕ). bestFrom nodes a j i w) k
 
-pub nodes-end : (s : State) (a : List Slot) (j n : ℕ) (w : Winner) → n ≤ j → bestFrom s a j (n - j) w ≡ w
+pub nodes-end : (nodes : List NodeState) (a : List Slot) (j n : ℕ) (w : Winner) → n ≤ j → bestFrom nodes a j (n - j) w ≡ w
 unfolding bestFrom
-nodes-end s a j n w h =
+nodes-end nodes a j n w h =
     let k : n - j ≡ 0 = omega arith in
-    ap (λ (i : ℕ). bestFrom s a j i w) k
+    ap (λ (i : ℕ). bestFrom nodes a j i w) k

@@ -15,7 +15,7 @@ use Rattle.bus_state.specs.Entries.{entryFill, entryPending}
 use Rattle.bus_state.specs.declared.State.{State}
 use Rattle.bus_state.specs.declared.NodeState.{NodeState}
 use Rattle.arbitration.specs.declared.Injection.{Injection}
-use Rattle.arbitration.specs.Winner.{heldAt}
+use Rattle.arbitration.specs.Winner.{heldAt, entryOf}
 use Rattle.arbitration.specs.Owed.{owedLength, owedTo, stayCount}
 
 -- a node's entry after the round
@@ -23,17 +23,22 @@ unfoldable pub entryAfter : Injection → NodeState → Bool → ℕ → NodeSta
 entryAfter e d mine size = entryPending (entryFill d (d .fill + owedLength e d mine size)) (stayCount d mine)
 
 -- the entries of n nodes from number j on, set one by one
-unfoldable pub entriesAfter : Injection → State → ℕ → ℕ → ℕ → ℕ → List NodeState → List NodeState
-entriesAfter e s owner size j zero l = l
-entriesAfter e s owner size j (suc n) l =
-    entriesAfter e s owner size (suc j) n (set l j (entryAfter e (nodeState s j) (eqb j owner) size))
+unfoldable pub entriesAfter : Injection → List NodeState → ℕ → ℕ → ℕ → ℕ → List NodeState → List NodeState
+entriesAfter e nodes owner size j zero l = l
+entriesAfter e nodes owner size j (suc n) l =
+    entriesAfter e nodes owner size (suc j) n (set l j (entryAfter e (entryOf nodes j) (eqb j owner) size))
+
+-- the state after the round
+unfoldable pub stateAfter : Injection → State → ℕ → ℕ → State
+stateAfter e s owner size =
+    record { count = s .count; round = s .round + 1; nodes = entriesAfter e (s .nodes) owner size 0 (s .count) (s .nodes) }
 
 -- the queues of n nodes from number j on, each with what its node is owed behind its fill
-unfoldable pub queuesAfter : Injection → State → ℕ → ℕ → List Slot → List ℕ → ℕ → ℕ → List ℕ → List ℕ
-queuesAfter e s owner position a bytes j zero q = q
-queuesAfter e s owner position a bytes j (suc n) q =
-    queuesAfter e s owner position a bytes (suc j) n
-    (over q (bytesPerQueue * j + nodeState s j .fill) (owedTo e (nodeState s j) j owner position a bytes))
+unfoldable pub queuesAfter : Injection → List NodeState → ℕ → ℕ → List Slot → List ℕ → ℕ → ℕ → List ℕ → List ℕ
+queuesAfter e nodes owner position a bytes j zero q = q
+queuesAfter e nodes owner position a bytes j (suc n) q =
+    queuesAfter e nodes owner position a bytes (suc j) n
+    (over q (bytesPerQueue * j + entryOf nodes j .fill) (owedTo e (entryOf nodes j) j owner position a bytes))
 
 -- ---- without the winner
 

@@ -19,7 +19,7 @@ use Rattle.bus_state.specs.declared.State.{State}
 use Rattle.bus_state.specs.declared.NodeState.{NodeState}
 use Rattle.arbitration.specs.declared.Injection.{Injection}
 use Rattle.arbitration.specs.declared.Injection.the-variants.{NoError, Injected}
-use Rattle.arbitration.specs.Winner.{heldAt}
+use Rattle.arbitration.specs.Winner.{heldAt, entryOf}
 
 -- ---- a frame, and a node's entry
 
@@ -57,6 +57,10 @@ toldCount d mine = cond (discards d) (losers d mine) 0
 
 abbrev pub stayCount : NodeState → Bool → ℕ
 stayCount d mine = cond (discards d) 0 (losers d mine)
+
+-- the owner has a frame pending at a position
+abbrev pub PendingAt : State → ℕ → ℕ → Type 0
+PendingAt s owner position = (owner < s .count) × (position < nodeState s owner .pending)
 
 -- ---- the bytes
 
@@ -96,7 +100,8 @@ unfoldable pub owedLength : Injection → NodeState → Bool → ℕ → ℕ
 owedLength e d mine size = newsLength e mine (isOff d) size + 12 * toldCount d mine
 
 -- each of n queues from number j on has room for what its node is owed
-unfoldable pub roomFrom : Injection → State → ℕ → ℕ → ℕ → ℕ → Bool
-roomFrom e s owner size j zero = true
-roomFrom e s owner size j (suc n) =
-    leb (nodeState s j .fill + owedLength e (nodeState s j) (eqb j owner) size) bytesPerQueue && roomFrom e s owner size (suc j) n
+unfoldable pub roomFrom : Injection → List NodeState → ℕ → ℕ → ℕ → ℕ → Bool
+roomFrom e nodes owner size j zero = true
+roomFrom e nodes owner size j (suc n) =
+    leb (entryOf nodes j .fill + owedLength e (entryOf nodes j) (eqb j owner) size) bytesPerQueue
+    && roomFrom e nodes owner size (suc j) n

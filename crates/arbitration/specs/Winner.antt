@@ -9,8 +9,9 @@ use Rattle.operation.specs.declared.Operation.{Operation}
 use Rattle.slots.specs.Slots.{freeSlot, contentOf, heldIn}
 use Rattle.slots.specs.declared.Slot.{Slot}
 use Rattle.plain_bus.specs.Order.{rank, lowerOr}
-use Rattle.bus_state.specs.Memory.{slotsPerNode, nodeState}
+use Rattle.bus_state.specs.Memory.{slotsPerNode, noNode}
 use Rattle.bus_state.specs.declared.State.{State}
+use Rattle.bus_state.specs.declared.NodeState.{NodeState}
 use Rattle.arbitration.specs.declared.Winner.{Winner}
 use Rattle.arbitration.specs.declared.Winner.the-variants.{Nobody, First}
 
@@ -34,10 +35,14 @@ unfoldable pub bestOf : List Slot → ℕ → ℕ → ℕ → Winner → Winner
 bestOf a j q zero w = w
 bestOf a j q (suc n) w = bestOf a j (suc q) n (better w (rank (heldAt a (slotsPerNode * j + q))) j q)
 
+-- the entry of node j
+abbrev pub entryOf : List NodeState → ℕ → NodeState
+entryOf nodes j = getD nodes j noNode
+
 -- the first of the best so far and the frames of n nodes from number j on
-unfoldable pub bestFrom : State → List Slot → ℕ → ℕ → Winner → Winner
-bestFrom s a j zero w = w
-bestFrom s a j (suc n) w = bestFrom s a (suc j) n (bestOf a j 0 (nodeState s j .pending) w)
+unfoldable pub bestFrom : List NodeState → List Slot → ℕ → ℕ → Winner → Winner
+bestFrom nodes a j zero w = w
+bestFrom nodes a j (suc n) w = bestFrom nodes a (suc j) n (bestOf a j 0 (entryOf nodes j .pending) w)
 
 unfoldable pub bestIn : State → List Slot → Winner
-bestIn s a = bestFrom s a 0 (s .count) Nobody
+bestIn s a = bestFrom (s .nodes) a 0 (s .count) Nobody

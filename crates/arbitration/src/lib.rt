@@ -8,10 +8,12 @@ ghost use Rattle.operation.specs.Rules.{oneOf, errorCodes, legal};
 ghost use Rattle.buffers.specs.Parts.{part, over};
 ghost use Rattle.slots.specs.Slots.{contentOf, heldIn};
 ghost use Rattle.plain_bus.specs.Order.{rank};
-ghost use Rattle.arbitration.specs.Injections.{injectionOf, injectionFrom, hasLegalCode};
+ghost use Rattle.bus_state.specs.Memory.{nodeState, payloadBytes, queueBytes};
+ghost use Rattle.bus_state.specs.Valid.{validState};
+ghost use Rattle.arbitration.specs.Injections.{injectionOf, injectionFrom, hasLegalCode, isWrong};
 ghost use Rattle.arbitration.specs.Winner.{heldAt, before, better, bestOf, bestIn};
-ghost use Rattle.arbitration.specs.Owed.{Writable, Frames, isOff, discards, discarded, own, losers, toldCount, stayCount, flagAt, newsTo, noticeOf, noticesBut, newsLength, owedTo, owedLength, roomFrom};
-ghost use Rattle.arbitration.specs.After.{entryAfter, source, blockWithout, payloadWithout};
+ghost use Rattle.arbitration.specs.Owed.{Writable, Frames, PendingAt, isOff, discards, discarded, own, losers, toldCount, stayCount, flagAt, newsTo, noticeOf, noticesBut, newsLength, owedTo, owedLength, roomFrom};
+ghost use Rattle.arbitration.specs.After.{entryAfter, stateAfter, queuesAfter, source, blockWithout, payloadWithout};
 use bus_state::NodeState;
 use bus_state::State;
 use operation::Operation;
@@ -30,6 +32,34 @@ pub fn injection_of(injected: u32, code: u32, detector: u32) -> Injection
         return Injection::NoError;
     }
     Injection::Injected { code, detector }
+}
+
+fn is_error_code(code: u32) -> bool
+    ensures { λ r. ⌜ r ≡ oneOf code errorCodes ⌝ }
+{
+    (code == operation::BIT_ERROR as u32)
+        | (code == operation::BIT_STUFFING_ERROR as u32)
+        | (code == operation::FORM_ERROR as u32)
+        | (code == operation::CRC_ERROR as u32)
+        | (code == operation::ACK_ERROR as u32)
+        | (code == operation::BROKEN_ERROR_FRAME as u32)
+}
+
+// Whether an injection is refused: its code is not in the table, or its node not attached or Bus-Off.
+fn is_wrong(s: State, e: Injection) -> bool
+    requires { ⌜ s .count ≤ 8 ⌝ }
+    ensures { λ r. ⌜ r ≡ isWrong s e ⌝ }
+{
+    match e {
+        Injection::NoError => false,
+        Injection::Injected { code, detector } => {
+            if s.count <= detector {
+                return true;
+            }
+            let nodes = s.nodes;
+            !is_error_code(code) | is_off(nodes[detector as usize])
+        }
+    }
 }
 
 // ---- the winner
@@ -107,6 +137,23 @@ fn best_of(a: [Slot; 32], j: usize, pending: usize, so_far: Winner) -> Winner
     while q < pending {
         best = better(best, rank(a[4 * j + q]), j, q);
         q += 1;
+    }
+    best
+}
+
+// The first of all pending frames.
+fn best_in(s: State, a: [Slot; 32]) -> Winner
+    requires { ⌜ validState s a ≡ true ⌝ }
+    ensures { λ r. ⌜ r ≡ bestIn s a ⌝ }
+{
+    let count = s.count as usize;
+    let nodes = s.nodes;
+    let mut best = Winner::Nobody;
+    let mut j = 0;
+    while j < count {
+        let d = nodes[j];
+        best = best_of(a, j, d.pending as usize, best);
+        j += 1;
     }
     best
 }
@@ -227,6 +274,24 @@ fn owed_length(d: NodeState, mine: bool, e: Injection, size: usize) -> usize
 {
     let off = is_off(d);
     news_length(e, mine, off, size) + 12 * told_count(d, mine) as usize
+}
+
+// Whether every queue has room for what its node is owed; size is the length of the winner's Transmit.
+fn has_room(s: State, e: Injection, owner: usize, size: usize) -> bool
+    requires { ⌜ (s .count ≤ 8) × (1 ≤ nodeState s owner .pending) × (size ≤ 2070) ⌝ }
+    ensures { λ r. ⌜ r ≡ roomFrom e (s .nodes) owner size 0 (s .count) ⌝ }
+{
+    let count = s.count as usize;
+    let nodes = s.nodes;
+    let mut j = 0;
+    while j < count {
+        let d = nodes[j];
+        if 4096 < d.fill as usize + owed_length(d, j == owner, e, size) {
+            return false;
+        }
+        j += 1;
+    }
+    true
 }
 
 // ---- the bytes
@@ -374,4 +439,39 @@ fn entry_after(d: NodeState, mine: bool, e: Injection, size: usize) -> NodeState
     let fill = d.fill + owed_length(d, mine, e, size) as u16;
     let pending = stay_count(d, mine);
     bus_state::with_pending(bus_state::with_fill(d, fill), pending)
+}
+
+// Writes what every node is owed, and gives the state after the round.
+fn tell_all(
+    s: State,
+    e: Injection,
+    owner: usize,
+    position: usize,
+    size: usize,
+    a: [Slot; 32],
+    bytes: &[u8],
+    queues: &mut [u8],
+) -> State
+    requires { ⌜ (validState s a ≡ true) × (s .round < 4294967295) × (hasLegalCode e ≡ true) ⌝ }
+    requires { ⌜ PendingAt s owner position ⌝ }
+    requires { ⌜ (length (now bytes) ≡ dataLength (heldAt a (4 * owner + position))) × (size ≡ lengthOf (heldAt a (4 * owner + position))) ⌝ }
+    requires { ⌜ (roomFrom e (s .nodes) owner size 0 (s .count) ≡ true) × (length (now queues) ≡ queueBytes) ⌝ }
+    ensures { λ r. ⌜ r ≡ stateAfter e s owner size ⌝ }
+    ensures { λ _. ⌜ now (queues .exit) ≡ queuesAfter e (s .nodes) owner position a (now (bytes .entry)) 0 (s .count) (now (queues .entry)) ⌝ }
+{
+    let count = s.count as usize;
+    let nodes = s.nodes;
+    let mut after = s.nodes;
+    let mut j = 0;
+    while j < count {
+        let d = nodes[j];
+        tell(d, j, e, owner, position, size, a, bytes, queues);
+        after[j] = entry_after(d, j == owner, e, size);
+        j += 1;
+    }
+    State {
+        count: s.count,
+        round: s.round + 1,
+        nodes: after,
+    }
 }
