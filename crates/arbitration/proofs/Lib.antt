@@ -7,3 +7,5 @@ pub mod Sound
 pub mod Rooms
 pub mod Wrong
 pub mod Settled
+pub mod Laid
+pub mod Places
