@@ -9,3 +9,4 @@ pub mod Wrong
 pub mod Settled
 pub mod Laid
 pub mod Places
+pub mod Agrees
