@@ -10,3 +10,5 @@ pub mod Settled
 pub mod Laid
 pub mod Places
 pub mod Agrees
+pub mod Removed
+pub mod Carried
