@@ -10,7 +10,7 @@ use native.Mathlib.Nat.{sub-zero}
 use lib.Dec.{eqb}
 use lib.ListN.{length, getD, set}
 use lib.Seq.{set-getD, set-set}
-use borrow.Author.Tests.{eqb-true, eqb-false}
+use borrow.Author.Tests.{eqb-true, eqb-false, ne-eqb}
 use Rattle.operation.specs.Format.{dataLength, lengthOf}
 use Rattle.buffers.specs.Parts.{over}
 use Rattle.slots.specs.Slots.{setBlock}
@@ -85,3 +85,177 @@ append-step : (z : Memory) (j : ℕ) (d : NodeState) (bytes : List ℕ) → j < 
 unfolding append setEntry
 append-step z j d bytes h =
     rw (entry-own z j d h, set-set (z .state .nodes) j d (entryFill d (d .fill + length bytes)))
+
+-- the node's entry at the end of its turn
+last-entry : (t mine : Bool) (d : NodeState) (n : ℕ)
+    → let x : NodeState = entryPending d (d .pending - own mine) in
+    let y : NodeState = cond t (entryPending x 0) x in
+    (y .fill ≡ d .fill) × (entryFill y (y .fill + n) ≡ entryPending (entryFill d (d .fill + n)) (cond t 0 (d .pending - own mine)))
+last-entry true mine d n = (refl, refl)
+last-entry false mine d n = (refl, refl)
+
+-- what moves where the winner is the node's own
+lowered-is : (x : Memory) (j q : ℕ) (mine : Bool)
+    → lowered x j q mine
+    ≡ held (x .state) (cond mine (slotsDown (x .slots) (4 * j + q) (entryAt x j .pending - 1 - q)) (x .slots))
+    (cond mine (payloadDown (x .slots) (x .payload) (4 * j + q) (entryAt x j .pending - 1 - q)) (x .payload)) (x .queues)
+lowered-is x j q true = down-is (entryAt x j .pending - 1 - q) x (4 * j + q)
+lowered-is x j q false = refl
+
+settle-step : (e : plain.Injection) (w : Entry) (x : Memory) (j : ℕ) → j < length (x .state .nodes)
+    → let mine : Bool = eqb j (w .owner) in
+    let d : NodeState = entryAt x j in
+    let bytes : List ℕ = owedAt e w x j in
+    settleAt e w x j
+    ≡ held
+    (withEntry (x .state) j (entryPending (entryFill d (d .fill + length bytes)) (stayCount d mine)))
+    (cond mine (slotsDown (x .slots) (4 * j + w .position) (d .pending - 1 - w .position)) (x .slots))
+    (cond mine (payloadDown (x .slots) (x .payload) (4 * j + w .position) (d .pending - 1 - w .position)) (x .payload))
+    (over (x .queues) (4_096 * j + d .fill) bytes)
+unfolding settleAt
+settle-step e w x j h =
+    let mine = eqb j (w .owner) in
+    let d = entryAt x j in
+    let d₁ = entryPending d (d .pending - own mine) in
+    let d₂ : NodeState = cond (discards d) (entryPending d₁ 0) d₁ in
+    let z = lowered x j (w .position) mine in
+    let k = lowered-is x j (w .position) mine in
+    let l : j < length (z .state .nodes) = rw k h in
+    let bytes = owedAt e w x j in
+    let g = last-entry (discards d) mine d (length bytes) in
+    ap (λ (y : Memory). append (withoutLosers y j) j bytes) (winner-step w x j)
+    ∙ ap (λ (y : Memory). append y j bytes) (losers-step z j d₁ l)
+    ∙ append-step z j d₂ bytes l
+    ∙ rw (g .1, g .0, k)
+
+-- ---- all turns
+
+module _ (s : State) (a : List Slot) (payload queues : List ℕ) (e : Injection) (owner position : ℕ)
+    (sized : Sized (held s a payload queues)) (v : validState s a ≡ true) (c : hasLegalCode e ≡ true) (w : PendingAt s owner position)
+    (room : roomFrom e (s .nodes) owner (lengthOf (heldAt a (4 * owner + position))) 0 (s .count) ≡ true) where
+  abbrev m : Memory
+  m = held s a payload queues
+
+  abbrev size : ℕ
+  size = lengthOf (heldAt a (4 * owner + position))
+
+  abbrev bytes : List ℕ
+  bytes = dataAtSlot m (4 * owner + position)
+
+  abbrev winner : Entry
+  winner = pendingAt m owner position
+
+  abbrev turn : Memory → ℕ → Memory
+  turn = settleAt (injectionOf e) winner
+
+  -- the slots and the payload without the winner
+  abbrev slots : List Slot
+  slots = slotsDown a (4 * owner + position) (nodeState s owner .pending - 1 - position)
+
+  abbrev rest : List ℕ
+  rest = payloadDown a payload (4 * owner + position) (nodeState s owner .pending - 1 - position)
+
+  -- before node j's turn, node j and the later ones are as they were
+  record Before (j : ℕ) (x : Memory) : Type 0 where
+    lengths : Sized x
+    same : (i : ℕ) → j ≤ i → Same m x i
+    early : j ≤ owner → (x .slots ≡ a) × (x .payload ≡ payload)
+    late : owner < j → (x .slots ≡ slots) × (x .payload ≡ rest)
+
+  module _ (j : ℕ) (h : j < s .count) (x : Memory) (b : Before j x) where
+    at-fits : Fits m j
+    at-fits = node-fits s a payload queues e owner position sized v c w j h
+
+    at-placed : eqb j owner ≡ true → position < entryAt x j .pending
+    at-placed q = rw (b .same j (omega arith) .entry) (node-placed s a payload queues e owner position sized v c w j q)
+
+    at-owed : owedAt (injectionOf e) winner x j ≡ owedTo e (nodeState s j) j owner position a bytes
+    at-owed =
+        let q = b .same j (omega arith) in
+        owed-view x (b .lengths) j (number-few s a payload queues e owner position sized v c w j h) (same-fits q at-fits)
+        (same-tidy q at-fits (node-tidy s a payload queues e owner position sized v c w j h)) winner at-placed (injectionOf e)
+        ∙ ap (owed (injectionOf e) winner j) (same-view q at-fits)
+        ∙ owed-is s a payload queues e owner position sized v c w j h
+
+    at-room : entryAt x j .fill + length (owed (injectionOf e) winner j (nodeView x j)) ≤ 4_096
+    at-room =
+        let q = b .same j (omega arith) in
+        let k = owed-is s a payload queues e owner position sized v c w j h in
+        let n = owed-size s a payload queues e owner position sized v c w j h in
+        rw (q .entry, same-view q at-fits, k, n) (room-at e (s .nodes) owner size (s .count) room j h)
+
+    at-turn : turn x j
+        ≡ held (withEntry (x .state) j (entryAfter e (nodeState s j) (eqb j owner) size))
+        (cond (eqb j owner) (slotsDown (x .slots) (4 * j + position) (nodeState s j .pending - 1 - position)) (x .slots))
+        (cond (eqb j owner) (payloadDown (x .slots) (x .payload) (4 * j + position) (nodeState s j .pending - 1 - position)) (x .payload))
+        (over (x .queues) (4_096 * j + nodeState s j .fill) (owedTo e (nodeState s j) j owner position a bytes))
+    unfolding entryAfter
+    at-turn =
+        let q = b .same j (omega arith) in
+        let l : j < length (x .state .nodes) = omega (arith, b .lengths .nodes, number-few s a payload queues e owner position sized v c w j h) in
+        let n = owed-size s a payload queues e owner position sized v c w j h in
+        settle-step (injectionOf e) winner x j l ∙ rw (at-owed, n, q .entry)
+
+    -- its turn touches no other node
+    at-touched : Touched x (turn x j) j (plain.settle (injectionOf e) winner j (nodeView x j))
+    at-touched =
+        let q = b .same j (omega arith) in
+        settle-touched x (b .lengths) j (number-few s a payload queues e owner position sized v c w j h) (same-fits q at-fits)
+        (same-tidy q at-fits (node-tidy s a payload queues e owner position sized v c w j h)) winner at-placed (injectionOf e) at-room
+
+    next : Before (suc j) (turn x j)
+    next = record {
+      lengths = at-touched .sized;
+      same = λ i l. same-trans (b .same i (omega arith)) (at-touched .others i (λ q. omega arith));
+      early = λ l.
+          let o : eqb j owner ≡ false = ne-eqb j owner (λ q. omega arith) in
+          let t = b .early (omega arith) in
+          rw (at-turn, o) t;
+      late = λ l. after (eqb j owner) refl l;
+    }
+      where
+        after : (t : Bool) → eqb j owner ≡ t → owner < suc j → (turn x j .slots ≡ slots) × (turn x j .payload ≡ rest)
+        after true q l =
+            let o = eqb-true j owner q in
+            let t = b .early (omega arith) in
+            rw (at-turn, q, t .0, t .1, o) (refl, refl)
+        after false q l =
+            let o = eqb-false j owner q in
+            rw (at-turn, q) (b .late (omega arith))
+
+  turns : (n j : ℕ) (x : Memory) → j + n ≡ s .count → Before j x
+      → inTurn turn j n x
+      ≡ held
+      (record {
+        count = x .state .count;
+        round = x .state .round;
+        nodes = entriesAfter e (s .nodes) owner size j n (x .state .nodes);
+      })
+      slots rest (queuesAfter e (s .nodes) owner position a bytes j n (x .queues))
+  unfolding inTurn entriesAfter queuesAfter
+  turns zero j x q b = let t = b .late (omega (arith, w .0)) in rw (t .0, t .1)
+  turns (suc n) j x q b =
+      let h : j < s .count = omega arith in
+      turns n (suc j) (turn x j) (omega arith) (next j h x b) ∙ rw (at-turn j h x b)
+
+  -- the memory after the round
+  pub after-is : afterRoundIn (injectionOf e) winner m
+      ≡ held (stateAfter e s owner size) (setBlock a (4 * owner) (blockWithout a (4 * owner) position (nodeState s owner .pending - 1)))
+      (payloadWithout a (4 * owner + position) (nodeState s owner .pending - 1 - position) payload)
+      (queuesAfter e (s .nodes) owner position a bytes 0 (s .count) queues)
+  unfolding afterRoundIn setRound stateAfter
+  after-is =
+      let o = number-few s a payload queues e owner position sized v c w owner (w .0) in
+      let few = node-sound s a v owner (w .0) .few in
+      let k = slots-down a (4 * owner) position (nodeState s owner .pending - 1) (omega (arith, sized .slots)) (omega (arith, w .1)) (omega (arith, few, w .1)) in
+      let p = payload-down a (nodeState s owner .pending - 1 - position) a payload (4 * owner + position) (λ i l. refl) in
+      ap (λ (x : Memory). setRound x (s .round + 1)) (turns (s .count) 0 m (omega arith) start)
+      ∙ rw (k, p)
+    where
+      start : Before 0 m
+      start = record {
+        lengths = sized;
+        same = λ i l. same-refl m i;
+        early = λ l. (refl, refl);
+        late = λ l. absurd (omega arith);
+      }
