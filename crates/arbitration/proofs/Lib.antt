@@ -12,3 +12,4 @@ pub mod Places
 pub mod Agrees
 pub mod Removed
 pub mod Carried
+pub mod Ends

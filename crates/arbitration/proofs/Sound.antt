@@ -25,7 +25,7 @@ use Rattle.bus_state.specs.declared.State.{State}
 use Rattle.bus_model.proofs.Lawful.{max-id, fd-short}
 use Rattle.bus_model.proofs.Validity.{SlotIs, slot-is, NodeIs, node-is, nodes-valid-at}
 use Rattle.arbitration.specs.Winner.{heldAt}
-use Rattle.arbitration.specs.Owed.{Writable, Frames, own}
+use Rattle.arbitration.specs.Owed.{Writable, Frames, PendingAt, own}
 
 -- ---- a frame that meets the content rules
 
@@ -112,6 +112,11 @@ module _ (s : State) (a : List Slot) (v : validState s a ≡ true) where
         past = λ q l. f q l .1;
         owned = λ q l. f q l .2;
       }
+
+  -- the numbers of a pending frame are small
+  pub place-small : (owner position : ℕ) → PendingAt s owner position
+      → (owner < 8) × (position < nodeState s owner .pending) × (nodeState s owner .pending ≤ 4)
+  place-small owner position w = (omega (arith, count-few, w .0), w .1, node-sound owner (w .0) .few)
 
 -- its slots from the first to the last in use
 pub sound-frames : {s : State} {a : List Slot} {j : ℕ} → SoundNode s a j → Frames a (4 * j) (4 * j + nodeState s j .pending)

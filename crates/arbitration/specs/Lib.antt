@@ -2,3 +2,4 @@ pub mod Injections
 pub mod Winner
 pub mod Owed
 pub mod After
+pub mod Round

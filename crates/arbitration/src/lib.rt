@@ -14,9 +14,18 @@ ghost use Rattle.arbitration.specs.Injections.{injectionOf, injectionFro
 ghost use Rattle.arbitration.specs.Winner.{heldAt, before, better, bestOf, bestIn};
 ghost use Rattle.arbitration.specs.Owed.{Writable, Frames, PendingAt, isOff, discards, discarded, own, losers, toldCount, stayCount, flagAt, newsTo, noticeOf, noticesBut, newsLength, owedTo, owedLength, roomFrom};
 ghost use Rattle.arbitration.specs.After.{entryAfter, stateAfter, queuesAfter, source, blockWithout, payloadWithout};
+ghost use Rattle.plain_bus.specs.Order.{wins};
+ghost use Rattle.plain_bus.specs.Round.{isErrored};
+ghost use Rattle.bus_state.specs.Memory.{held};
+ghost use Rattle.bus_model.specs.Round.{pendingAt};
+ghost use Rattle.bus_model.specs.Calls.{arbitrateIn, rounded};
+ghost use Rattle.outcome.specs.Outcome.{endedBy, ended};
+ghost use Rattle.arbitration.specs.Round.{carriedOut};
 use bus_state::NodeState;
 use bus_state::State;
 use operation::Operation;
+use outcome::Change;
+use outcome::Outcome;
 use slots::Slot;
 
 // An error injected into a round: its code, and the number of the node that detects it.
@@ -59,6 +68,18 @@ fn is_wrong(s: State, e: Injection) -> bool
             let nodes = s.nodes;
             !is_error_code(code) | is_off(nodes[detector as usize])
         }
+    }
+}
+
+fn is_errored(e: Injection) -> bool
+    ensures { λ r. ⌜ r ≡ isErrored (injectionOf e) ⌝ }
+{
+    match e {
+        Injection::NoError => false,
+        Injection::Injected {
+            code: _,
+            detector: _,
+        } => true,
     }
 }
 
@@ -473,5 +494,101 @@ fn tell_all(
         count: s.count,
         round: s.round + 1,
         nodes: after,
+    }
+}
+
+// ---- the round
+
+// The round number at its largest.
+const LAST_ROUND: u32 = 4294967295;
+
+// Carries out a round that a frame won and that every queue has room for: the queues first, and then the frame is removed.
+fn carry_out(
+    s: State,
+    a: [Slot; 32],
+    payload: &mut [u8],
+    queues: &mut [u8],
+    e: Injection,
+    owner: usize,
+    position: usize,
+    size: usize,
+) -> Change
+    requires { ⌜ (validState s a ≡ true) × (s .round < 4294967295) × (hasLegalCode e ≡ true) ⌝ }
+    requires { ⌜ PendingAt s owner position ⌝ }
+    requires { ⌜ (size ≡ lengthOf (heldAt a (4 * owner + position))) × (roomFrom e (s .nodes) owner size 0 (s .count) ≡ true) ⌝ }
+    requires { ⌜ (length (now payload) ≡ payloadBytes) × (length (now queues) ≡ queueBytes) ⌝ }
+    ensures { λ r. ⌜ endedBy r a (now (payload .exit)) (now (queues .exit)) ≡ ended (carriedOut (held s a (now (payload .entry)) (now (queues .entry))) (injectionOf e) (pendingAt (held s a (now (payload .entry)) (now (queues .entry))) owner position)) ⌝ }
+    ensures { λ r. ⌜ r .at + 4 ≤ 32 ⌝ }
+{
+    let nodes = s.nodes;
+    let d = nodes[owner];
+    let at = 4 * owner;
+    let slot = at + position;
+    let winner = a[slot];
+    let from = 2048 * slot;
+    let to = from + operation::data_length(slots::held_in(winner)) as usize;
+    let state = tell_all(s, e, owner, position, size, a, &payload[from..to], queues);
+    let last = d.pending as usize - 1;
+    move_data(payload, a, slot, at + last);
+    let block = block_without(a, at, position, last);
+    let outcome = Outcome::Carried {
+        sender: owner as u8,
+        id: slots::id_of(winner),
+        errored: is_errored(e),
+        age: s.round - winner.accepted,
+    };
+    Change {
+        outcome,
+        state,
+        at,
+        block,
+    }
+}
+
+// A round that a frame won: refused where a queue is too full, or the round number at its largest.
+fn arbitrate(
+    s: State,
+    a: [Slot; 32],
+    payload: &mut [u8],
+    queues: &mut [u8],
+    e: Injection,
+    owner: usize,
+    position: usize,
+) -> Change
+    requires { ⌜ (validState s a ≡ true) × (hasLegalCode e ≡ true) ⌝ }
+    requires { ⌜ PendingAt s owner position ⌝ }
+    requires { ⌜ (length (now payload) ≡ payloadBytes) × (length (now queues) ≡ queueBytes) ⌝ }
+    ensures { λ r. ⌜ endedBy r a (now (payload .exit)) (now (queues .exit)) ≡ ended (arbitrateIn (held s a (now (payload .entry)) (now (queues .entry))) (injectionOf e) (wins (pendingAt (held s a (now (payload .entry)) (now (queues .entry))) owner position))) ⌝ }
+    ensures { λ r. ⌜ r .at + 4 ≤ 32 ⌝ }
+{
+    let op = slots::held_in(a[4 * owner + position]);
+    let size = operation::head_length(op) + operation::data_length(op) as usize;
+    if !has_room(s, e, owner, size) {
+        return outcome::unchanged(Outcome::QueueFull, s, a);
+    }
+    if LAST_ROUND <= s.round {
+        return outcome::unchanged(Outcome::RoundsUsedUp, s, a);
+    }
+    carry_out(s, a, payload, queues, e, owner, position, size)
+}
+
+// One round. The lent memory changes only where it is carried out.
+pub fn round(s: State, a: [Slot; 32], payload: &mut [u8], queues: &mut [u8], e: Injection) -> Change
+    requires { ⌜ validState s a ≡ true ⌝ }
+    requires { ⌜ (length (now payload) ≡ payloadBytes) × (length (now queues) ≡ queueBytes) ⌝ }
+    ensures { λ r. ⌜ endedBy r a (now (payload .exit)) (now (queues .exit)) ≡ ended (rounded (held s a (now (payload .entry)) (now (queues .entry))) (injectionOf e)) ⌝ }
+    ensures { λ r. ⌜ r .at + 4 ≤ 32 ⌝ }
+{
+    if is_wrong(s, e) {
+        return outcome::unchanged(Outcome::BadInjection, s, a);
+    }
+    let best = best_in(s, a);
+    match best {
+        Winner::Nobody => outcome::unchanged(Outcome::Idle, s, a),
+        Winner::First {
+            rank: _,
+            owner,
+            position,
+        } => arbitrate(s, a, payload, queues, e, owner, position),
     }
 }
