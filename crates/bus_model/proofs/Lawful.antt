@@ -24,21 +24,21 @@ use Rattle.plain_bus.proofs.Codec.{reads-written}
 use Rattle.slots.specs.Slots.{heldIn}
 use Rattle.bus_model.specs.Refines.{TypedSlot}
 
-max-id : (ide : ℕ) → maxId ide ≤ 536_870_911
+pub max-id : (ide : ℕ) → maxId ide ≤ 536_870_911
 max-id ide = go (eqb ide 0)
   where
     go : (t : Bool) → cond t 2_047 536_870_911 ≤ 536_870_911
     go true = lit≤ tt
     go false = lit≤ tt
 
-one-small : (x y : ℕ) (r : Bool) {P : Type 0} → (eqb x y || r) ≡ true → (x ≡ y → P) → (r ≡ true → P) → P
+pub one-small : (x y : ℕ) (r : Bool) {P : Type 0} → (eqb x y || r) ≡ true → (x ≡ y → P) → (r ≡ true → P) → P
 one-small x y r {P} e f g = go (eqb x y) refl e
   where
     go : (t : Bool) → eqb x y ≡ t → (t || r) ≡ true → P
     go true q e = f (eqb-true x y q)
     go false q e = g e
 
-fd-short : (dl : ℕ) → fdLength dl ≡ true → dl ≤ 64
+pub fd-short : (dl : ℕ) → fdLength dl ≡ true → dl ≤ 64
 unfolding fdLength oneOf
 fd-short dl e = go (leb dl 8) refl e
   where

@@ -40,13 +40,13 @@ pub record Good (m : Memory) : Type 0 where
 
 -- ---- slots
 
-record SlotIs (j low now : ℕ) (s : Slot) : Type 0 where
-  lawful : legalContent (contentOf s) ≡ true
-  owner : s .owner ≡ j
-  least : low ≤ s .accepted
-  most : s .accepted ≤ now
+pub record SlotIs (j low now : ℕ) (s : Slot) : Type 0 where
+  pub lawful : legalContent (contentOf s) ≡ true
+  pub owner : s .owner ≡ j
+  pub least : low ≤ s .accepted
+  pub most : s .accepted ≤ now
 
-slot-is : (j low now : ℕ) (s : Slot) → validSlot j low now s ≡ true → SlotIs j low now s
+pub slot-is : (j low now : ℕ) (s : Slot) → validSlot j low now s ≡ true → SlotIs j low now s
 unfolding validSlot
 slot-is j low now s e =
     let a = both _ _ e in
@@ -139,7 +139,7 @@ pub record EntryIs (d : NodeState) : Type 0 where
   pub few : d .pending ≤ 4
   pub silent : eqb (d .status) busOff ≡ true → d .pending ≡ 0
 
-entry-is : (d : NodeState) → validEntry d ≡ true → EntryIs d
+pub entry-is : (d : NodeState) → validEntry d ≡ true → EntryIs d
 unfolding validEntry
 entry-is d e =
     let a = both _ (not (eqb (d .status) busOff) || eqb (d .pending) 0) e in
@@ -172,7 +172,7 @@ is-entry d v =
 
 -- ---- nodes
 
-nodes-valid-at : (n j : ℕ) (s : State) (slots : List Slot) → validNodes n j s slots ≡ true → (i : ℕ) → i < n
+pub nodes-valid-at : (n j : ℕ) (s : State) (slots : List Slot) → validNodes n j s slots ≡ true → (i : ℕ) → i < n
     → validNode (s .round) (j + i) (nodeState s (j + i)) slots ≡ true
 unfolding validNodes
 nodes-valid-at zero j s slots e i h = absurd (omega arith)
@@ -199,7 +199,7 @@ pub record NodeIs (m : Memory) (j : ℕ) : Type 0 where
   pub entry : EntryIs (entryAt m j)
   pub slots : validSlots (entryAt m j .pending) (4 * j) j 0 (m .state .round) (m .slots) ≡ true
 
-node-is : (m : Memory) (j : ℕ) → validNode (m .state .round) j (entryAt m j) (m .slots) ≡ true → NodeIs m j
+pub node-is : (m : Memory) (j : ℕ) → validNode (m .state .round) j (entryAt m j) (m .slots) ≡ true → NodeIs m j
 unfolding validNode
 node-is m j e = let a = both (validEntry (entryAt m j)) _ e in record { entry = entry-is (entryAt m j) (a .0); slots = a .1 }
 

@@ -1,0 +1,163 @@
+-- What a node is owed by its entry and the slots is what the plain bus owes the view of it.
+-- Assumes nothing.
+use mathlib.Core.Path.{_≡_, refl, sym, ap, _∙_}
+use mathlib.Core.Bool.{Bool, true, false, cond, _&&_}
+use mathlib.Core.List.{List, [], _++_}
+use Prim.Native.Nat.{ℕ, zero, suc, _+_, _-_, _*_, _≤_, _<_}
+use native.Mathlib.Omega.{arith}
+use native.Mathlib.Nat.{add-zero}
+use lib.Dec.{leb, eqb}
+use lib.ListN.{length}
+use borrow.Author.Tests.{eqb-true, eqb-false, eq-eqb, ne-eqb}
+use Rattle.operation.specs.Format.{dataLength, lengthOf, encode}
+use Rattle.operation.specs.Kinds.{idOf}
+use Rattle.operation.specs.declared.Operation.the-variants.{ArbitrationLost}
+use Rattle.slots.specs.declared.Slot.{Slot}
+use Rattle.plain_bus.specs.Held as plain
+use Rattle.plain_bus.specs.Order.{Entry}
+use Rattle.plain_bus.specs.Round.{newsFor, without, lostNotices, drops, told, owed}
+use Rattle.plain_bus.specs.Round as plainRound
+use Rattle.buffers.proofs.Offsets.{length-part}
+use Rattle.bus_state.specs.Memory.{Memory, nodeState, held, dataAtSlot, frameAt, framesFrom, nodeView}
+use Rattle.bus_state.specs.Valid.{validState}
+use Rattle.bus_state.specs.declared.State.{State}
+use Rattle.bus_model.specs.Primitives.{entryAt}
+use Rattle.bus_model.specs.Submit.{roomForEach}
+use Rattle.bus_model.specs.Round.{pendingAt, owedAt}
+use Rattle.bus_model.specs.Refines.{Sized}
+use Rattle.bus_model.proofs.Views.{Fits}
+use Rattle.bus_model.proofs.Touched.{Tidy}
+use Rattle.bus_model.proofs.Settle.{owed-view}
+use Rattle.arbitration.specs.declared.Injection.{Injection}
+use Rattle.arbitration.specs.declared.Injection.the-variants.{NoError, Injected}
+use Rattle.arbitration.specs.Injections.{injectionOf, hasLegalCode}
+use Rattle.arbitration.specs.Winner.{heldAt}
+use Rattle.arbitration.specs.Owed.{PendingAt, isOff, discards, discarded, newsTo, noticeOf, noticesBut, owedTo, owedLength, roomFrom}
+use Rattle.arbitration.proofs.Sound.{SoundNode, count-few, node-sound, sound-frames}
+use Rattle.arbitration.proofs.Lengths.{owed-length-is}
+
+-- ---- the notices
+
+notices-others : (m : Memory) (winner n p : ℕ) → ((i : ℕ) → i < n → p + i ≡ winner → ⊥)
+    → lostNotices (framesFrom m p n) ≡ noticesBut (m .slots) winner p n
+unfolding noticesBut framesFrom frameAt lostNotices
+notices-others m winner zero p o = refl
+notices-others m winner (suc n) p o =
+    let x : eqb p winner ≡ false = ne-eqb p winner (λ e. o 0 (omega arith) (omega arith)) in
+    rw (x, notices-others m winner n (suc p) (λ i h e. o (suc i) (omega arith) (omega arith)))
+
+notices-without : (m : Memory) (q n p : ℕ) → q < n
+    → lostNotices (without q (framesFrom m p n)) ≡ noticesBut (m .slots) (p + q) p n
+unfolding noticesBut framesFrom frameAt lostNotices without
+notices-without m q zero p h = absurd (omega arith)
+notices-without m zero (suc n) p h =
+    let x : eqb p (p + 0) ≡ true = eq-eqb p (p + 0) (omega arith) in
+    rw x (notices-others m (p + 0) n (suc p) (λ i h e. omega arith))
+notices-without m (suc q) (suc n) p h =
+    let x : eqb p (p + suc q) ≡ false = ne-eqb p (p + suc q) (λ e. omega arith) in
+    let s : suc p + q ≡ p + suc q = omega arith in
+    let r = rw s at (notices-without m q n (suc p) (omega arith)) in
+    rw (x, r)
+
+notices-view : (m : Memory) (j owner position : ℕ) → position < 4 → entryAt m j .pending ≤ 4
+    → (j ≡ owner → position < entryAt m j .pending)
+    → lostNotices (told (pendingAt m owner position) j (nodeView m j))
+    ≡ noticesBut (m .slots) (4 * owner + position) (4 * j) (discarded (entryAt m j))
+unfolding told drops plainRound.losers nodeView noticesBut lostNotices
+notices-view m j owner position h few o = go (discards (entryAt m j)) (eqb j owner) refl
+  where
+    frames : List plain.Frame
+    frames = framesFrom m (4 * j) (entryAt m j .pending)
+
+    go : (t u : Bool) → eqb j owner ≡ u
+        → lostNotices (cond t (cond u (without position frames) frames) [])
+        ≡ noticesBut (m .slots) (4 * owner + position) (4 * j) (cond t (entryAt m j .pending) 0)
+    go false u q = refl
+    go true true q =
+        let e = eqb-true j owner q in
+        rw (← e) (notices-without m position (entryAt m j .pending) (4 * j) (o e))
+    go true false q =
+        let n = eqb-false j owner q in
+        notices-others m (4 * owner + position) (entryAt m j .pending) (4 * j) (λ i l e. n (omega arith))
+
+-- ---- the news
+
+news-view : (e : Injection) (m : Memory) (j owner position : ℕ)
+    → newsFor (injectionOf e) (pendingAt m owner position) j (nodeView m j)
+    ≡ newsTo e j owner (isOff (entryAt m j)) (heldAt (m .slots) (4 * owner + position)) (dataAtSlot m (4 * owner + position))
+unfolding newsFor newsTo nodeView frameAt
+news-view NoError m j owner position = refl
+news-view (Injected code detector) m j owner position = refl
+
+-- ---- all of it, where the state is valid and the winner is pending
+
+module _ (s : State) (a : List Slot) (payload queues : List ℕ) (e : Injection) (owner position : ℕ)
+    (sized : Sized (held s a payload queues)) (v : validState s a ≡ true) (c : hasLegalCode e ≡ true) (w : PendingAt s owner position) where
+  abbrev m : Memory
+  m = held s a payload queues
+
+  abbrev size : ℕ
+  size = lengthOf (heldAt a (4 * owner + position))
+
+  low : position < 4
+  low = omega (arith, node-sound s a v owner (w .0) .few, w .1)
+
+  own-low : (j : ℕ) → j ≡ owner → position < nodeState s j .pending
+  own-low j q = rw q (w .1)
+
+  pub number-few : (j : ℕ) → j < s .count → j < 8
+  number-few j h = omega (arith, count-few s a v)
+
+  pub node-fits : (j : ℕ) → j < s .count → Fits m j
+  node-fits j h =
+      let n = node-sound s a v j h in
+      record { few = n .few; fill = n .fill; short = λ q l. n .frames q l .short }
+
+  pub node-tidy : (j : ℕ) → j < s .count → Tidy m j
+  node-tidy j h = let n = node-sound s a v j h in record { fill = n .fill; owned = n .owned }
+
+  pub node-placed : (j : ℕ) → eqb j owner ≡ true → position < entryAt m j .pending
+  node-placed j q = own-low j (eqb-true j owner q)
+
+  pub owed-is : (j : ℕ) → j < s .count
+      → owed (injectionOf e) (pendingAt m owner position) j (nodeView m j)
+      ≡ owedTo e (nodeState s j) j owner position a (dataAtSlot m (4 * owner + position))
+  unfolding owed owedTo
+  owed-is j h =
+      rw (news-view e m j owner position, notices-view m j owner position low (node-sound s a v j h .few) (own-low j))
+
+  pub data-whole : length (dataAtSlot m (4 * owner + position)) ≡ dataLength (heldAt a (4 * owner + position))
+  data-whole =
+      let o = number-few owner (w .0) in
+      let f = node-sound s a v owner (w .0) .frames position (w .1) in
+      length-part (2_048 * (4 * owner + position)) (dataLength (heldAt a (4 * owner + position))) payload
+      (omega (arith, sized .payload, f .short, low))
+
+  pub owed-size : (j : ℕ) → j < s .count
+      → length (owedTo e (nodeState s j) j owner position a (dataAtSlot m (4 * owner + position)))
+      ≡ owedLength e (nodeState s j) (eqb j owner) size
+  owed-size j h =
+      let n = node-sound s a v j h in
+      owed-length-is e (nodeState s j) j owner position a (dataAtSlot m (4 * owner + position)) size
+      (node-sound s a v owner (w .0) .frames position (w .1)) c data-whole refl low (n .few) (own-low j) (sound-frames n)
+
+  -- in the model's words
+  owed-at : (j : ℕ) → j < s .count
+      → owedAt (injectionOf e) (pendingAt m owner position) m j
+      ≡ owedTo e (nodeState s j) j owner position a (dataAtSlot m (4 * owner + position))
+  owed-at j h =
+      owed-view m sized j (number-few j h) (node-fits j h) (node-tidy j h) (pendingAt m owner position) (node-placed j) (injectionOf e)
+      ∙ owed-is j h
+
+  room-from : (n j : ℕ) → j + n ≤ s .count
+      → roomForEach (owedAt (injectionOf e) (pendingAt m owner position) m) m j n ≡ roomFrom e (s .nodes) owner size j n
+  unfolding roomForEach roomFrom
+  room-from zero j h = refl
+  room-from (suc n) j h =
+      let l : j < s .count = omega arith in
+      rw (owed-at j l, owed-size j l, room-from n (suc j) (omega arith))
+
+  -- the room test by lengths is the model's
+  pub room-is : roomForEach (owedAt (injectionOf e) (pendingAt m owner position) m) m 0 (s .count)
+      ≡ roomFrom e (s .nodes) owner size 0 (s .count)
+  room-is = room-from (s .count) 0 (omega arith)

@@ -1,0 +1,125 @@
+-- The number of bytes that a node is owed.
+-- Assumes nothing.
+use mathlib.Core.Path.{_≡_, refl, sym, ap, _∙_}
+use mathlib.Core.List.{List, [], _++_}
+use mathlib.Core.Bool.{Bool, true, false, cond}
+use Prim.Native.Nat.{ℕ, zero, suc, _+_, _-_, _*_, _≤_, _<_}
+use native.Mathlib.Omega.{arith}
+use native.Mathlib.Nat.{add-zero}
+use lib.Dec.{eqb}
+use borrow.Author.Tests.{eqb-true, eqb-false, eq-eqb, ne-eqb}
+use lib.ListN.{length, length-append}
+use Rattle.operation.specs.Format.{headLength, dataLength, lengthOf, encode}
+use Rattle.operation.specs.Kinds.{idOf}
+use Rattle.operation.specs.Rules.{oneOf, errorCodes}
+use Rattle.operation.specs.declared.Operation.{Operation}
+use Rattle.operation.specs.declared.Operation.the-variants.{Confirm, ArbitrationLost, BusError}
+use Rattle.operation.proofs.Sizes.{encode-length}
+use Rattle.slots.specs.declared.Slot.{Slot}
+use Rattle.bus_state.specs.declared.NodeState.{NodeState}
+use Rattle.arbitration.specs.declared.Injection.{Injection}
+use Rattle.arbitration.specs.declared.Injection.the-variants.{NoError, Injected}
+use Rattle.arbitration.specs.Injections.{hasLegalCode}
+use Rattle.arbitration.specs.Winner.{heldAt}
+use Rattle.arbitration.specs.Owed.{Writable, isOff, toldCount, owedLength, discards, discarded, own, flagAt, newsTo, noticeOf, noticesBut, owedTo, newsLength, Frames}
+use Rattle.arbitration.proofs.Told.{confirm-length, lost-length, error-length}
+
+pub news-short : (e : Injection) (mine off : Bool) (size : ℕ) → size ≤ 2_070 → newsLength e mine off size ≤ 2_070
+news-short NoError true off size h = omega arith
+news-short NoError false true size h = omega arith
+news-short NoError false false size h = h
+news-short (Injected code detector) mine true size h = omega arith
+news-short (Injected code detector) mine false size h = omega arith
+
+-- no more are discarded than are pending
+pub discarded-few : (d : NodeState) → discarded d ≤ d .pending
+discarded-few d = go (discards d)
+  where
+    go : (t : Bool) → cond t (d .pending) 0 ≤ d .pending
+    go true = omega arith
+    go false = omega arith
+
+-- no more are told than are pending
+told-few : (d : NodeState) (mine : Bool) → toldCount d mine ≤ d .pending
+told-few d mine = go (discards d)
+  where
+    go : (t : Bool) → cond t (d .pending - own mine) 0 ≤ d .pending
+    go true = omega arith
+    go false = omega arith
+
+pub owed-short : (e : Injection) (d : NodeState) (mine : Bool) (size : ℕ) → size ≤ 2_070
+    → owedLength e d mine size ≤ 2_070 + 12 * d .pending
+unfolding owedLength
+owed-short e d mine size h = omega (arith, news-short e mine (isOff d) size h, told-few d mine)
+
+-- the news are as long as their number says
+pub news-length-is : (e : Injection) (j owner : ℕ) (off : Bool) (op : Operation) (bytes : List ℕ) (size : ℕ) → Writable op
+    → hasLegalCode e ≡ true → length bytes ≡ dataLength op → size ≡ lengthOf op
+    → length (newsTo e j owner off op bytes) ≡ newsLength e (eqb j owner) off size
+unfolding newsTo
+news-length-is NoError j owner off op bytes size w c b n = go (eqb j owner) off
+  where
+    go : (mine off : Bool)
+        → length (cond mine (encode (Confirm (idOf op)) []) (cond off [] (encode op bytes))) ≡ newsLength NoError mine off size
+    go true off = confirm-length (idOf op) (w .id)
+    go false true = refl
+    go false false = encode-length op bytes (w .lawful) ∙ omega arith
+news-length-is (Injected code detector) j owner true op bytes size w c b n = refl
+news-length-is (Injected code detector) j owner false op bytes size w c b n = error-length (idOf op) code (eqb j detector) (eqb j owner) (w .id) c
+
+-- ---- the notices
+
+-- twelve bytes a frame, where the winner is none of them
+notices-all : (a : List Slot) (winner n p : ℕ) → ((i : ℕ) → i < n → p + i ≡ winner → ⊥) → Frames a p (p + n)
+    → length (noticesBut a winner p n) ≡ 12 * n
+unfolding noticesBut
+notices-all a winner zero p o f = refl
+notices-all a winner (suc n) p o f =
+    let x : eqb p winner ≡ false = ne-eqb p winner (λ e. o 0 (omega arith) (omega arith)) in
+    let k = lost-length (idOf (heldAt a p)) (f p (omega arith) (omega arith) .id) in
+    let l = notices-all a winner n (suc p) (λ i h e. o (suc i) (omega arith) (omega arith)) (λ q h g. f q (omega arith) (omega arith)) in
+    rw x (length-append (encode (ArbitrationLost (idOf (heldAt a p))) []) (noticesBut a winner (suc p) n) ∙ omega (arith, k, l))
+
+-- and one less, where it is one of them
+notices-one : (a : List Slot) (q n p : ℕ) → q < n → Frames a p (p + n) → length (noticesBut a (p + q) p n) ≡ 12 * (n - 1)
+unfolding noticesBut
+notices-one a q zero p h f = absurd (omega arith)
+notices-one a zero (suc n) p h f =
+    let x : eqb p (p + 0) ≡ true = eq-eqb p (p + 0) (omega arith) in
+    let l = notices-all a (p + 0) n (suc p) (λ i h e. omega arith) (λ q h g. f q (omega arith) (omega arith)) in
+    rw x (l ∙ omega arith)
+notices-one a (suc q) (suc n) p h f =
+    let x : eqb p (p + suc q) ≡ false = ne-eqb p (p + suc q) (λ e. omega arith) in
+    let k = lost-length (idOf (heldAt a p)) (f p (omega arith) (omega arith) .id) in
+    let s : suc p + q ≡ p + suc q = omega arith in
+    let l = rw s at (notices-one a q n (suc p) (omega arith) (λ q h g. f q (omega arith) (omega arith))) in
+    rw x
+    (length-append (encode (ArbitrationLost (idOf (heldAt a p))) []) (noticesBut a (p + suc q) (suc p) n) ∙ omega (arith, k, l))
+
+notices-told : (a : List Slot) (d : NodeState) (j owner position : ℕ) → position < 4 → d .pending ≤ 4
+    → (j ≡ owner → position < d .pending) → Frames a (4 * j) (4 * j + d .pending)
+    → length (noticesBut a (4 * owner + position) (4 * j) (discarded d)) ≡ 12 * toldCount d (eqb j owner)
+unfolding noticesBut
+notices-told a d j owner position h few o f = go (discards d) (eqb j owner) refl
+  where
+    go : (t u : Bool) → eqb j owner ≡ u
+        → length (noticesBut a (4 * owner + position) (4 * j) (cond t (d .pending) 0)) ≡ 12 * cond t (d .pending - own u) 0
+    go false u q = refl
+    go true true q =
+        let e = eqb-true j owner q in
+        rw (← e) (notices-one a position (d .pending) (4 * j) (o e) f)
+    go true false q =
+        let n = eqb-false j owner q in
+        notices-all a (4 * owner + position) (d .pending) (4 * j) (λ i l e. n (omega arith)) f ∙ omega arith
+
+-- all that a node is owed is as long as its number says
+pub owed-length-is : (e : Injection) (d : NodeState) (j owner position : ℕ) (a : List Slot) (bytes : List ℕ) (size : ℕ)
+    → Writable (heldAt a (4 * owner + position)) → hasLegalCode e ≡ true → length bytes ≡ dataLength (heldAt a (4 * owner + position))
+    → size ≡ lengthOf (heldAt a (4 * owner + position)) → position < 4 → d .pending ≤ 4 → (j ≡ owner → position < d .pending)
+    → Frames a (4 * j) (4 * j + d .pending)
+    → length (owedTo e d j owner position a bytes) ≡ owedLength e d (eqb j owner) size
+unfolding owedTo owedLength
+owed-length-is e d j owner position a bytes size w c b n h few o f =
+    let op = heldAt a (4 * owner + position) in
+    length-append (newsTo e j owner (isOff d) op bytes) (noticesBut a (4 * owner + position) (4 * j) (discarded d))
+    ∙ rw (news-length-is e j owner (isOff d) op bytes size w c b n, notices-told a d j owner position h few o f)

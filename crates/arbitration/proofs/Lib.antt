@@ -1,0 +1,15 @@
+pub mod Bytes
+pub mod Scan
+pub mod Moves
+pub mod Told
+pub mod Lengths
+pub mod Sound
+pub mod Rooms
+pub mod Wrong
+pub mod Settled
+pub mod Laid
+pub mod Places
+pub mod Agrees
+pub mod Removed
+pub mod Carried
+pub mod Ends

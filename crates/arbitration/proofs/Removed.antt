@@ -1,0 +1,156 @@
+-- The model's removal of a frame, part by part: the slots as four of them laid over the list, and the payload.
+-- Assumes nothing.
+use mathlib.Core.Path.{_≡_, refl, sym, ap, _∙_}
+use mathlib.Core.Bool.{Bool, true, false, cond, _&&_}
+use mathlib.Core.List.{List, [], _∷_}
+use Prim.Native.Nat.{ℕ, zero, suc, _+_, _-_, _*_, _≤_, _<_}
+use native.Mathlib.Omega.{arith}
+use native.Mathlib.Nat.{add-zero}
+use native.Mathlib.Numerals.{add-one}
+use lib.Dec.{leb, ltb}
+use lib.ListN.{length, getD, set, length-set}
+use lib.Seq.{getD-set-same, getD-set-other, ext-getD}
+use borrow.Author.Tests.{leb-true, leb-false, ltb-true, ltb-false}
+use Rattle.operation.specs.Format.{dataLength}
+use Rattle.operation.proofs.Tests.{both}
+use Rattle.buffers.specs.Parts.{part, over}
+use Rattle.slots.specs.Slots.{freeSlot, contentOf, heldIn, setBlock}
+use Rattle.slots.specs.declared.Slot.{Slot}
+use Rattle.bus_state.specs.Memory.{Memory, held, slotAt, dataAtSlot}
+use Rattle.bus_model.specs.Primitives.{fillSlot, moveDown}
+use Rattle.arbitration.specs.Winner.{heldAt}
+use Rattle.arbitration.specs.After.{source, blockWithout, payloadWithout}
+use Rattle.arbitration.proofs.Laid.{length-block, block-other, block-own}
+
+-- ---- the parts of what the model moves
+
+unfoldable pub slotsDown : List Slot → ℕ → ℕ → List Slot
+slotsDown l p zero = l
+slotsDown l p (suc n) = slotsDown (set l p (getD l (suc p) freeSlot)) (suc p) n
+
+unfoldable pub payloadDown : List Slot → List ℕ → ℕ → ℕ → List ℕ
+payloadDown l q p zero = q
+payloadDown l q p (suc n) =
+    payloadDown (set l p (getD l (suc p) freeSlot)) (over q (2_048 * p) (part (2_048 * suc p) (dataLength (heldAt l (suc p))) q)) (suc p) n
+
+pub down-is : (n : ℕ) (x : Memory) (p : ℕ)
+    → moveDown x p n ≡ held (x .state) (slotsDown (x .slots) p n) (payloadDown (x .slots) (x .payload) p n) (x .queues)
+unfolding moveDown fillSlot slotsDown payloadDown
+down-is zero x p = refl
+down-is (suc n) x p = down-is n (fillSlot x p (slotAt x (suc p)) (dataAtSlot x (suc p))) (suc p)
+
+-- ---- the payload
+
+pub payload-down : (a : List Slot) (n : ℕ) (l : List Slot) (q : List ℕ) (p : ℕ)
+    → ((i : ℕ) → p < i → getD l i freeSlot ≡ getD a i freeSlot) → payloadDown l q p n ≡ payloadWithout a p n q
+unfolding payloadDown payloadWithout
+payload-down a zero l q p f = refl
+payload-down a (suc n) l q p f =
+    payload-down a n (set l p (getD l (suc p) freeSlot))
+    (over q (2_048 * p) (part (2_048 * suc p) (dataLength (heldAt l (suc p))) q)) (suc p)
+    (λ i h. getD-set-other l p i (getD l (suc p) freeSlot) freeSlot (λ e. omega arith) ∙ f i (omega arith))
+    ∙ ap
+    (λ (x : Slot). payloadWithout a (suc p) n (over q (2_048 * p) (part (2_048 * suc p) (dataLength (heldIn (contentOf x))) q)))
+    (f (suc p) (omega arith))
+
+-- ---- the slots
+
+length-down : (n : ℕ) (l : List Slot) (p : ℕ) → length (slotsDown l p n) ≡ length l
+unfolding slotsDown
+length-down zero l p = refl
+length-down (suc n) l p =
+    length-down n (set l p (getD l (suc p) freeSlot)) (suc p) ∙ length-set l p (getD l (suc p) freeSlot)
+
+down-other : (n : ℕ) (l : List Slot) (p r : ℕ) → ((i : ℕ) → i < n → r ≡ p + i → ⊥)
+    → getD (slotsDown l p n) r freeSlot ≡ getD l r freeSlot
+unfolding slotsDown
+down-other zero l p r o = refl
+down-other (suc n) l p r o =
+    down-other n (set l p (getD l (suc p) freeSlot)) (suc p) r (λ i h e. o (suc i) (omega arith) (omega arith))
+    ∙ getD-set-other l p r (getD l (suc p) freeSlot) freeSlot (λ e. o 0 (omega arith) (omega arith))
+
+down-own : (n : ℕ) (l : List Slot) (p i : ℕ) → i < n → p + n < length l
+    → getD (slotsDown l p n) (p + i) freeSlot ≡ getD l (suc p + i) freeSlot
+unfolding slotsDown
+down-own zero l p i h g = absurd (omega arith)
+down-own (suc n) l p zero h g =
+    rw (add-zero p, add-zero (suc p))
+    (down-other n (set l p (getD l (suc p) freeSlot)) (suc p) p (λ i h e. omega arith)
+    ∙ getD-set-same l p (getD l (suc p) freeSlot) freeSlot (omega arith))
+down-own (suc n) l p (suc i) h g =
+    let e : suc p + i ≡ p + suc i = omega arith in
+    let e′ : suc (suc p) + i ≡ suc p + suc i = omega arith in
+    let x = set l p (getD l (suc p) freeSlot) in
+    let k = length-set l p (getD l (suc p) freeSlot) in
+    rw (← e, ← e′)
+    (down-own n x (suc p) i (omega arith) (omega arith)
+    ∙ getD-set-other l p (suc (suc p) + i) (getD l (suc p) freeSlot) freeSlot (λ q. omega arith))
+
+block-entry : (a : List Slot) (at position last q : ℕ) → q < 4
+    → getD (blockWithout a at position last) q freeSlot ≡ getD a (at + source position last q) freeSlot
+block-entry a at position last zero h = refl
+block-entry a at position last (suc zero) h = refl
+block-entry a at position last (suc (suc zero)) h = refl
+block-entry a at position last (suc (suc (suc zero))) h = refl
+block-entry a at position last (suc (suc (suc (suc q)))) h = absurd (omega arith)
+
+module _ (a : List Slot) (at position last : ℕ) (h : at + 4 ≤ length a) (f : position ≤ last) (g : last < 4) where
+  moved : List Slot
+  moved = slotsDown a (at + position) (last - position)
+
+  -- each of the four
+  inside : (q : ℕ) → q < 4 → getD a (at + source position last q) freeSlot ≡ getD moved (at + q) freeSlot
+  unfolding moved
+  inside q u = go (leb position q) refl (ltb q last) refl
+    where
+      go : (t : Bool) → leb position q ≡ t → (r : Bool) → ltb q last ≡ r
+          → getD a (at + cond (t && r) (q + 1) q) freeSlot ≡ getD (slotsDown a (at + position) (last - position)) (at + q) freeSlot
+      go true x true y =
+          let l = leb-true position q x in
+          let k = ltb-true q last y in
+          let i : at + position + (q - position) ≡ at + q = omega arith in
+          let i′ : suc (at + position) + (q - position) ≡ at + (q + 1) = omega arith in
+          rw (← i, ← i′) (sym (down-own (last - position) a (at + position) (q - position) (omega arith) (omega arith)))
+      go true x false y =
+          let k = ltb-false q last y in
+          sym (down-other (last - position) a (at + position) (at + q) (λ i v e. omega arith))
+      go false x r y =
+          let l = leb-false position q x in
+          sym (down-other (last - position) a (at + position) (at + q) (λ i v e. omega arith))
+
+  each : (r : ℕ) → getD (setBlock a at (blockWithout a at position last)) r freeSlot ≡ getD moved r freeSlot
+  unfolding moved
+  each r = go (leb at r) refl (ltb r (at + 4)) refl
+    where
+      b : List Slot
+      b = blockWithout a at position last
+
+      outside : ((q : ℕ) → q < 4 → r ≡ at + q → ⊥)
+          → getD (setBlock a at (blockWithout a at position last)) r freeSlot
+          ≡ getD (slotsDown a (at + position) (last - position)) r freeSlot
+      outside o =
+          block-other a at (blockWithout a at position last) r o
+          ∙ sym (down-other (last - position) a (at + position) r (λ i v e. o (position + i) (omega arith) (omega arith)))
+
+      go : (t : Bool) → leb at r ≡ t → (u : Bool) → ltb r (at + 4) ≡ u
+          → getD (setBlock a at (blockWithout a at position last)) r freeSlot
+          ≡ getD (slotsDown a (at + position) (last - position)) r freeSlot
+      go true x true y =
+          let l = leb-true at r x in
+          let k = ltb-true r (at + 4) y in
+          let i : at + (r - at) ≡ r = omega arith in
+          let s : getD (setBlock a at (blockWithout a at position last)) (at + (r - at)) freeSlot ≡ getD (slotsDown a (at + position) (last - position)) (at + (r - at)) freeSlot =
+          block-own a at (blockWithout a at position last) h (r - at) (omega arith)
+          ∙ block-entry a at position last (r - at) (omega arith)
+          ∙ inside (r - at) (omega arith) in
+          rw i at s
+      go true x false y = let k = ltb-false r (at + 4) y in outside (λ q v e. omega arith)
+      go false x u y = let l = leb-false at r x in outside (λ q v e. omega arith)
+
+  -- the four slots laid over the list are the model's slots
+  pub slots-down : setBlock a at (blockWithout a at position last) ≡ slotsDown a (at + position) (last - position)
+  unfolding moved
+  slots-down =
+      ext-getD freeSlot (setBlock a at (blockWithout a at position last)) (slotsDown a (at + position) (last - position))
+      (length-block a at (blockWithout a at position last) ∙ sym (length-down (last - position) a (at + position)))
+      (λ r l. each r)

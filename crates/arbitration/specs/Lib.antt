@@ -1,0 +1,5 @@
+pub mod Injections
+pub mod Winner
+pub mod Owed
+pub mod After
+pub mod Round

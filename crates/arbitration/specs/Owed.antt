@@ -1,0 +1,107 @@
+-- What a round owes each node: bytes, and their number, which decides before any byte is written (01, "One round").
+-- Assumes nothing.
+use Prim.Native.Nat.{ℕ, zero, suc, _+_, _-_, _*_, _≤_, _<_}
+use mathlib.Core.Path.{_≡_}
+use mathlib.Core.List.{List, [], _++_}
+use mathlib.Core.Bool.{Bool, true, cond, _&&_}
+use lib.Dec.{leb, eqb}
+use lib.ListN.{getD}
+use Rattle.operation.specs.Format.{dataLength, encode}
+use Rattle.operation.specs.Kinds.{idOf}
+use Rattle.operation.specs.Rules.{legal, maxExtendedId}
+use Rattle.operation.specs.declared.Operation.{Operation}
+use Rattle.operation.specs.declared.Operation.the-variants.{Confirm, ArbitrationLost, BusError}
+use Rattle.slots.specs.declared.Slot.{Slot}
+use Rattle.plain_bus.specs.Held.{busOff, discardAndNotify}
+use Rattle.plain_bus.specs.Round.{primaryErrorFlag, secondaryErrorFlag}
+use Rattle.bus_state.specs.Memory.{slotsPerNode, bytesPerSlot, bytesPerQueue, nodeState}
+use Rattle.bus_state.specs.declared.State.{State}
+use Rattle.bus_state.specs.declared.NodeState.{NodeState}
+use Rattle.arbitration.specs.declared.Injection.{Injection}
+use Rattle.arbitration.specs.declared.Injection.the-variants.{NoError, Injected}
+use Rattle.arbitration.specs.Winner.{heldAt, entryOf}
+
+-- ---- a frame, and a node's entry
+
+-- what can be written of a pending frame: it meets the rules, so do Confirm and Arbitration Lost with its ID, and its data fit a slot
+pub record Writable (op : Operation) : Type 0 where
+  pub lawful : legal op ≡ true
+  pub id : idOf op ≤ maxExtendedId
+  pub short : dataLength op ≤ bytesPerSlot
+
+-- the slots from one position to another hold such frames
+abbrev pub Frames : List Slot → ℕ → ℕ → Type 0
+Frames a from end = (p : ℕ) → from ≤ p → p < end → Writable (heldAt a p)
+
+abbrev pub isOff : NodeState → Bool
+isOff d = eqb (d .status) busOff
+
+abbrev pub discards : NodeState → Bool
+discards d = eqb (d .behaviour) discardAndNotify
+
+-- one where a frame is the node's own
+abbrev pub own : Bool → ℕ
+own mine = cond mine 1 0
+
+-- the frames that a node has pending besides the winner
+abbrev pub losers : NodeState → Bool → ℕ
+losers d mine = d .pending - own mine
+
+-- the frames that a node has no more where it discards, the winner among them
+abbrev pub discarded : NodeState → ℕ
+discarded d = cond (discards d) (d .pending) 0
+
+-- how many of the losers are removed and told, and how many stay pending
+abbrev pub toldCount : NodeState → Bool → ℕ
+toldCount d mine = cond (discards d) (losers d mine) 0
+
+abbrev pub stayCount : NodeState → Bool → ℕ
+stayCount d mine = cond (discards d) 0 (losers d mine)
+
+-- the owner has a frame pending at a position
+abbrev pub PendingAt : State → ℕ → ℕ → Type 0
+PendingAt s owner position = (owner < s .count) × (position < nodeState s owner .pending)
+
+-- ---- the bytes
+
+-- the Error Flag at node j
+abbrev pub flagAt : ℕ → ℕ → ℕ
+flagAt j detector = cond (eqb j detector) primaryErrorFlag secondaryErrorFlag
+
+-- what node j is told of the winner: its Transmit with its data, Confirm at its owner, or Bus Error; nothing at a Bus-Off node
+unfoldable pub newsTo : Injection → ℕ → ℕ → Bool → Operation → List ℕ → List ℕ
+newsTo NoError j owner off op bytes = cond (eqb j owner) (encode (Confirm (idOf op)) []) (cond off [] (encode op bytes))
+newsTo (Injected code detector) j owner off op bytes =
+    cond off [] (encode (BusError (idOf op) code (flagAt j detector) (own (eqb j owner))) [])
+
+-- Arbitration Lost for a frame, unless it is the winner
+abbrev pub noticeOf : Bool → Operation → List ℕ
+noticeOf wins op = cond wins [] (encode (ArbitrationLost (idOf op)) [])
+
+-- the notices for the frames of n slots from p on
+unfoldable pub noticesBut : List Slot → ℕ → ℕ → ℕ → List ℕ
+noticesBut a winner p zero = []
+noticesBut a winner p (suc n) = noticeOf (eqb p winner) (heldAt a p) ++ noticesBut a winner (suc p) n
+
+-- all that node j is owed, by its entry; the winner's slot is the owner's at a position
+unfoldable pub owedTo : Injection → NodeState → ℕ → ℕ → ℕ → List Slot → List ℕ → List ℕ
+owedTo e d j owner position a bytes =
+    newsTo e j owner (isOff d) (heldAt a (slotsPerNode * owner + position)) bytes
+    ++ noticesBut a (slotsPerNode * owner + position) (slotsPerNode * j) (discarded d)
+
+-- ---- their number
+
+abbrev pub newsLength : Injection → Bool → Bool → ℕ → ℕ
+newsLength NoError mine off size = cond mine 12 (cond off 0 size)
+newsLength (Injected code detector) mine off size = cond off 0 15
+
+-- size is the length of the winner's Transmit
+unfoldable pub owedLength : Injection → NodeState → Bool → ℕ → ℕ
+owedLength e d mine size = newsLength e mine (isOff d) size + 12 * toldCount d mine
+
+-- each of n queues from number j on has room for what its node is owed
+unfoldable pub roomFrom : Injection → List NodeState → ℕ → ℕ → ℕ → ℕ → Bool
+roomFrom e nodes owner size j zero = true
+roomFrom e nodes owner size j (suc n) =
+    leb (entryOf nodes j .fill + owedLength e (entryOf nodes j) (eqb j owner) size) bytesPerQueue
+    && roomFrom e nodes owner size (suc j) n
