@@ -11,7 +11,6 @@ use Rattle.operation.specs.Format.{lengthOf}
 use Rattle.operation.specs.Kinds.{idOf}
 use Rattle.slots.specs.Slots.{freeSlot, setBlock}
 use Rattle.slots.specs.declared.Slot.{Slot}
-use Rattle.slots.proofs.Blocks.{same-block}
 use Rattle.plain_bus.specs.Held.{lastRound}
 use Rattle.plain_bus.specs.Order.{wins}
 use Rattle.plain_bus.specs.Round.{isErrored}
@@ -40,10 +39,6 @@ use Rattle.arbitration.proofs.Wrong.{wrong-is}
 -- an outcome with the memory as it was
 abbrev pub kept : Outcome → Memory → Ended
 kept o m = record { outcome = o; memory = m }
-
-pub unchanged-ended : (o : Outcome) (s : State) (a : List Slot) (payload queues : List ℕ) {r : Change} → r ≡ unchanged o s a
-    → endedBy r a payload queues ≡ kept o (held s a payload queues)
-unchanged-ended o s a payload queues q = rw (q, same-block a 0)
 
 -- ---- before the winner is known to have room
 

@@ -15,9 +15,9 @@ abbrev pub injectionOf : Injection → plain.Injection
 injectionOf NoError = plain.noError
 injectionOf (Injected code detector) = plain.injected code detector
 
--- an injection from the numbers of a call: whether there is one, its code and the detecting node
-abbrev pub injectionFrom : ℕ → ℕ → ℕ → Injection
-injectionFrom injected code detector = cond (eqb injected 0) NoError (Injected code detector)
+-- the injection that three numbers stand for: none where the first is 0, else an error's code and the number of the node that detects it
+abbrev pub injectionFrom : ℕ → ℕ → ℕ → plain.Injection
+injectionFrom injected code detector = cond (eqb injected 0) plain.noError (plain.injected code detector)
 
 -- the code is one of the table, where there is one
 abbrev pub hasLegalCode : Injection → Bool

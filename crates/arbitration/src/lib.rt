@@ -35,7 +35,7 @@ pub enum Injection {
 }
 
 pub fn injection_of(injected: u32, code: u32, detector: u32) -> Injection
-    ensures { λ r. ⌜ r ≡ injectionFrom injected code detector ⌝ }
+    ensures { λ r. ⌜ injectionOf r ≡ injectionFrom injected code detector ⌝ }
 {
     if injected == 0 {
         return Injection::NoError;

@@ -2,10 +2,7 @@
 -- Assumes nothing.
 use Prim.Native.Nat.{ℕ}
 use mathlib.Core.List.{List}
-use mathlib.Core.Bool.{cond}
-use lib.Dec.{eqb}
 use Rattle.slots.specs.declared.Slot.{Slot}
-use Rattle.plain_bus.specs.Round.{Injection, noError, injected}
 use Rattle.bus_state.specs.Memory.{held}
 use Rattle.bus_model.specs.Calls.{Result}
 use Rattle.outcome.specs.Outcome.{outcomeIs, answerOf, Ended}
@@ -33,7 +30,3 @@ startedBy c payload queues = record { outcome = c .outcome; memory = held (c .st
 
 abbrev pub keptBy : Kept → List Slot → List ℕ → List ℕ → Ended
 keptBy c slots payload queues = record { outcome = c .outcome; memory = held (c .state) slots payload queues }
-
--- the injection that three numbers stand for: none where the first is 0, else an error's code and the number of the node that detects it
-abbrev pub injectionFrom : ℕ → ℕ → ℕ → Injection
-injectionFrom present code detector = cond (eqb present 0) noError (injected code detector)

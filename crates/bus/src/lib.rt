@@ -5,8 +5,9 @@ ghost use Prim.Native.Nat.{_+_, _≤_};
 ghost use lib.ListN.{length};
 ghost use Rattle.bus_state.specs.Memory.{held};
 ghost use Rattle.bus_model.specs.Primitives.{newEntry, newState};
-ghost use Rattle.bus_model.specs.Calls.{startIn, submitIn, collectIn, bufferAfter};
+ghost use Rattle.bus_model.specs.Calls.{startIn, submitIn, roundIn, collectIn, bufferAfter};
 ghost use Rattle.outcome.specs.Outcome.{answerOf, endedBy, ended};
+ghost use Rattle.arbitration.specs.Injections.{injectionFrom};
 ghost use Rattle.bus.specs.Left.{startedBy, keptBy};
 use bus_state::NodeState;
 use bus_state::State;
@@ -111,6 +112,31 @@ pub fn submit(
         return outcome::unchanged(Outcome::Invalid, s, a);
     }
     submission::submit(s, a, payload, queues, node, buffer)
+}
+
+pub fn round(
+    s: State,
+    a: [Slot; 32],
+    payload: &mut [u8],
+    queues: &mut [u8],
+    injected: u32,
+    code: u32,
+    detector: u32,
+) -> Change
+    ensures ended { λ r. ⌜ endedBy r a (now (payload .exit)) (now (queues .exit)) ≡ ended (roundIn (held s a (now (payload .entry)) (now (queues .entry))) (injectionFrom injected code detector)) ⌝ }
+    ensures inside { λ r. ⌜ r .at + 4 ≤ 32 ⌝ }
+{
+    if payload.len() != PAYLOAD_BYTES {
+        return outcome::unchanged(Outcome::WrongMemory, s, a);
+    }
+    if queues.len() != QUEUE_BYTES {
+        return outcome::unchanged(Outcome::WrongMemory, s, a);
+    }
+    if !bus_state::is_valid(s, a) {
+        return outcome::unchanged(Outcome::Invalid, s, a);
+    }
+    let e = arbitration::injection_of(injected, code, detector);
+    arbitration::round(s, a, payload, queues, e)
 }
 
 // The queue goes to the front of the caller's buffer.

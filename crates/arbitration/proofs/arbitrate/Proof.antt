@@ -1,6 +1,7 @@
 -- By the room, then by the round number.
 use Prim.Native.Nat.{ℕ, _+_, _-_, _*_, _≤_}
-use Rattle.arbitration.proofs.Ends.{unchanged-ended, full-ended, used-up-ended, carried-ended}
+use Rattle.outcome.proofs.Endings.{unchanged-ends}
+use Rattle.arbitration.proofs.Ends.{full-ended, used-up-ended, carried-ended}
 use Rattle.arbitration.proofs.Sound.{count-few, node-sound, place-small}
 use Rattle.arbitration.specs.Winner.{heldAt}
 use Rattle.bus_model.specs.Refines.{Sized}
@@ -75,7 +76,7 @@ returns c =
     let x : c .before .before .before .before .head-length .result + c .before .before .before .data-length .result ≡ lengthOf (heldAt (a .t2) (4 * a .owner + a .position)) = rw (c .before .before .before .before .head-length .ensures .0, c .before .before .before .data-length .ensures, c .before .before .before .before .before .held-in .ensures) in
     let z : Sized (held (a .s) (a .t2) (now (a .payload)) (now (a .queues))) = record { slots = s .good .1 .0 .1 .0 .1; payload = s .pre .1 .1 .0; queues = s .pre .1 .1 .1; nodes = sym (length-map (a .s .nodes) _) ∙ s .good .0 .1 .1 .1 .1 .0 .1 .0 .1 } in
     let q = rw x at (sym (c .before .before .has-room .ensures) ∙ not-true _ (c .before .if1 .taken)) in
-    (unchanged-ended QueueFull (a .s) (a .t2) (now (a .payload)) (now (a .queues)) (c .unchanged .ensures) ∙ full-ended (a .s) (a .t2) (now (a .payload)) (now (a .queues)) (a .e) (a .owner) (a .position) z v (s .pre .0 .1) w q, rw (c .unchanged .ensures) (omega arith))
+    (unchanged-ends QueueFull (a .s) (a .t2) (now (a .payload)) (now (a .queues)) (c .unchanged .ensures) ∙ full-ended (a .s) (a .t2) (now (a .payload)) (now (a .queues)) (a .e) (a .owner) (a .position) z v (s .pre .0 .1) w q, rw (c .unchanged .ensures) (omega arith))
 
 returns-2 : tie.Need-returns-2
 returns-2 c =
@@ -88,7 +89,7 @@ returns-2 c =
     let x : c .before .before .before .before .before .before .head-length .result + c .before .before .before .before .before .data-length .result ≡ lengthOf (heldAt (a .t2) (4 * a .owner + a .position)) = rw (c .before .before .before .before .before .before .head-length .ensures .0, c .before .before .before .before .before .data-length .ensures, c .before .before .before .before .before .before .before .held-in .ensures) in
     let z : Sized (held (a .s) (a .t2) (now (a .payload)) (now (a .queues))) = record { slots = s .good .1 .0 .1 .0 .1; payload = s .pre .1 .1 .0; queues = s .pre .1 .1 .1; nodes = sym (length-map (a .s .nodes) _) ∙ s .good .0 .1 .1 .1 .1 .0 .1 .0 .1 } in
     let q = rw x at (sym (c .before .before .before .before .has-room .ensures) ∙ not-false _ (c .before .before .before .if1 .left)) in
-    (unchanged-ended RoundsUsedUp (a .s) (a .t2) (now (a .payload)) (now (a .queues)) (c .unchanged2 .ensures) ∙ used-up-ended (a .s) (a .t2) (now (a .payload)) (now (a .queues)) (a .e) (a .owner) (a .position) z v (s .pre .0 .1) w q (c .before .if2 .taken), rw (c .unchanged2 .ensures) (omega arith))
+    (unchanged-ends RoundsUsedUp (a .s) (a .t2) (now (a .payload)) (now (a .queues)) (c .unchanged2 .ensures) ∙ used-up-ended (a .s) (a .t2) (now (a .payload)) (now (a .queues)) (a .e) (a .owner) (a .position) z v (s .pre .0 .1) w q (c .before .if2 .taken), rw (c .unchanged2 .ensures) (omega arith))
 
 carry-out-requires : tie.Need-carry-out-requires
 carry-out-requires c κs =

@@ -1,6 +1,7 @@
 -- By the injection, then by the winner.
 use Prim.Native.Nat.{ℕ, _+_, _-_, _*_, _≤_}
-use Rattle.arbitration.proofs.Ends.{unchanged-ended, wrong-ended, idle-ended, won-ended}
+use Rattle.outcome.proofs.Endings.{unchanged-ends}
+use Rattle.arbitration.proofs.Ends.{wrong-ended, idle-ended, won-ended}
 use Rattle.arbitration.proofs.Places.{first-wins}
 use Rattle.arbitration.proofs.Sound.{count-few}
 use Rattle.arbitration.proofs.Wrong.{right-code}
@@ -21,7 +22,7 @@ returns c =
     let s = c .before .before .before .before .before in
     let a = s .args in
     let q = sym (c .before .before .is-wrong .ensures) ∙ c .before .if1 .taken in
-    (unchanged-ended BadInjection (a .s) (a .a) (now (a .payload)) (now (a .queues)) (c .unchanged .ensures) ∙ wrong-ended (a .s) (a .a) (now (a .payload)) (now (a .queues)) (a .e) q, rw (c .unchanged .ensures) (omega arith))
+    (unchanged-ends BadInjection (a .s) (a .a) (now (a .payload)) (now (a .queues)) (c .unchanged .ensures) ∙ wrong-ended (a .s) (a .a) (now (a .payload)) (now (a .queues)) (a .e) q, rw (c .unchanged .ensures) (omega arith))
 
 arbitrate-requires : tie.Need-arbitrate-requires
 arbitrate-requires c κs =
@@ -37,7 +38,7 @@ returns-2 c =
     let a = s .args in
     let q = sym (c .before .before .before .before .before .is-wrong .ensures) ∙ c .before .before .before .before .if1 .left in
     let n = sym (c .before .before .before .best-in .ensures) ∙ c .before .enum-told .given .1 in
-    (unchanged-ended Idle (a .s) (a .a) (now (a .payload)) (now (a .queues)) (c .unchanged2 .ensures) ∙ idle-ended (a .s) (a .a) (now (a .payload)) (now (a .queues)) (a .e) q n, rw (c .unchanged2 .ensures) (omega arith))
+    (unchanged-ends Idle (a .s) (a .a) (now (a .payload)) (now (a .queues)) (c .unchanged2 .ensures) ∙ idle-ended (a .s) (a .a) (now (a .payload)) (now (a .queues)) (a .e) q n, rw (c .unchanged2 .ensures) (omega arith))
 
 returns-3 : tie.Need-returns-3
 returns-3 c =
