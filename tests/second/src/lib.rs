@@ -13,6 +13,7 @@
 //! With the feature `bus` the library's calls of the bus take part in the last two.
 
 pub mod bus;
+pub mod by_value;
 pub mod calls;
 pub mod codec;
 pub mod comparison;
