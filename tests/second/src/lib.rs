@@ -13,14 +13,19 @@
 //! With the feature `bus` the library's calls of the bus take part in the last two.
 
 pub mod bus;
+pub mod bus_cases;
+pub mod bus_comparison;
+pub mod bus_tally;
 pub mod by_value;
 pub mod calls;
 pub mod codec;
 pub mod comparison;
 pub mod counts;
 pub mod generate;
+pub mod invalid;
 pub mod lent;
 pub mod library;
+pub mod memory;
 pub mod plants;
 pub mod random;
 pub mod refusal;
