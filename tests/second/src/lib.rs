@@ -15,6 +15,7 @@
 pub mod bus;
 pub mod bus_cases;
 pub mod bus_comparison;
+pub mod bus_plants;
 pub mod bus_tally;
 pub mod by_value;
 pub mod calls;
