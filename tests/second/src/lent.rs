@@ -396,6 +396,27 @@ impl Slot {
         }
     }
 
+    /// Whether it holds a Transmit that meets the content rules. By way of the
+    /// operation a full bus would take a seventh longer.
+    #[inline]
+    fn is_sound(&self) -> bool {
+        let largest = match self.first {
+            0 => codec::LARGEST_STANDARD_ID,
+            1 => codec::LARGEST_ID,
+            _ => return false,
+        };
+        // Rtr, Brs or Sec.
+        if self.id > largest || self.second > 1 {
+            return false;
+        }
+        match self.kind.into() {
+            codec::CAN_TRANSMIT => self.length <= 8,
+            codec::FD_TRANSMIT => self.third <= 1 && codec::is_fd_length(self.length),
+            codec::XL_TRANSMIT => (1..=2_048).contains(&self.length),
+            _ => false,
+        }
+    }
+
     /// The Transmit that the slot holds.
     #[inline]
     pub fn operation(&self) -> Option<Operation> {
@@ -489,9 +510,7 @@ impl State {
                 each(start + place, slot);
                 let in_order = earliest <= slot.accepted && slot.accepted <= self.round;
                 earliest = slot.accepted;
-                in_order
-                    && usize::from(slot.owner) == number
-                    && slot.operation().is_some_and(|op| op.is_sound())
+                in_order && usize::from(slot.owner) == number && slot.is_sound()
             })
         })
     }
