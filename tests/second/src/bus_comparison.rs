@@ -7,7 +7,7 @@ use crate::bus::{Bus, Round};
 use crate::bus_cases::{Case, Cases};
 use crate::bus_tally::{BusTally, Part, Size};
 use crate::invalid::{Breaker, Invalid};
-use crate::lent::State;
+use crate::lent::{Slot, State};
 use crate::library::KfAnswer;
 use crate::memory::{Call, Calls, Memory, Sizes};
 use crate::session::{self, Done};
@@ -139,21 +139,21 @@ impl Comparison {
     /// Starts anew; says whether it was done.
     fn start(&mut self, count: u32) -> Result<bool, Box<Difference>> {
         let call = Call::Start { count };
-        let started = Bus::start(count as usize);
-        self.tally.start(count, started.as_ref().err().copied());
-        let number = match started {
-            Ok(bus) => {
-                self.plain = bus;
-                0
-            }
+        match Bus::start(count as usize) {
             Err(number) => {
+                self.tally.start(count, Some(number));
                 self.refused(&call, Sizes::RIGHT, number, State::new(0))?;
                 return Ok(false);
             }
-        };
+            Ok(bus) => {
+                self.tally.start(count, None);
+                self.plain = bus;
+            }
+        }
+        let expected = KfAnswer::new(0, State::new(count));
         for side in &mut self.sides {
             let answer = side.play(Sizes::RIGHT, &call);
-            side.answers(&call, &KfAnswer::new(number, State::new(count)), &answer)?;
+            side.answers(&call, &expected, &answer)?;
             side.memory.state = answer.state;
         }
         self.agree(&call)?;
@@ -161,13 +161,17 @@ impl Comparison {
     }
 
     /// A call that every side has to refuse with `number`, handing back
-    /// `state`, and without changing anything.
+    /// `state`.
     fn refused(&mut self, call: &Call, sizes: Sizes, number: u8, state: State) -> Compared {
+        self.unchanged(call, sizes, &KfAnswer::new(number, state))
+    }
+
+    /// A call that changes nothing.
+    fn unchanged(&mut self, call: &Call, sizes: Sizes, expected: &KfAnswer) -> Compared {
         self.kept.copy_from(&self.sides[0].memory);
-        let expected = KfAnswer::new(number, state);
         for side in &mut self.sides {
             let answer = side.play(sizes, call);
-            side.answers(call, &expected, &answer)?;
+            side.answers(call, expected, &answer)?;
             side.agrees(call, side.memory.difference(&self.kept))?;
         }
         Ok(())
@@ -187,12 +191,6 @@ impl Comparison {
         self.refused(call, size.of(part), 1, state)?;
         self.set_state(held);
         Ok(())
-    }
-
-    fn set_state(&mut self, state: State) {
-        for side in &mut self.sides {
-            side.memory.state = state;
-        }
     }
 
     /// A call on a state that breaks one rule. Before it is broken, the state
@@ -219,7 +217,13 @@ impl Comparison {
         Ok(())
     }
 
-    fn set(&mut self, state: State, slots: &[crate::lent::Slot]) {
+    fn set_state(&mut self, state: State) {
+        for side in &mut self.sides {
+            side.memory.state = state;
+        }
+    }
+
+    fn set(&mut self, state: State, slots: &[Slot]) {
         for side in &mut self.sides {
             side.memory.state = state;
             side.memory.slots.copy_from_slice(slots);
@@ -233,29 +237,19 @@ impl Comparison {
         let answer = session::answer(&mut self.plain, &played);
         self.tally.call(&before, call, &played, &answer, &self.plain);
         let first = &self.sides[0].memory;
-        let collected = match answer {
-            Err(number) => return self.refused(call, Sizes::RIGHT, number, first.state),
-            Ok(Done::Round(Round::Idle)) => {
-                self.kept.copy_from(first);
-                None
-            }
-            Ok(Done::Collected(ref bytes)) => {
-                self.kept.buffer.copy_from_slice(&first.buffer);
-                self.kept.buffer[..bytes.len()].copy_from_slice(bytes);
-                Some(())
-            }
-            Ok(_) => None,
-        };
+        if matches!(answer, Err(_) | Ok(Done::Round(Round::Idle))) {
+            let expected = expected(&answer, first.state);
+            return self.unchanged(call, Sizes::RIGHT, &expected);
+        }
+        self.kept.buffer.copy_from_slice(&first.buffer);
+        if let Ok(Done::Collected(bytes)) = &answer {
+            self.kept.buffer[..bytes.len()].copy_from_slice(bytes);
+        }
         for side in &mut self.sides {
             let given = side.play(Sizes::RIGHT, call);
             side.answers(call, &expected(&answer, given.state), &given)?;
+            side.agrees(call, side.memory.buffer_difference(&self.kept))?;
             side.memory.state = given.state;
-            if collected.is_some() && side.memory.buffer != self.kept.buffer {
-                side.agrees(call, Some("collected bytes, or bytes behind them".to_string()))?;
-            }
-            if given.idle == 1 {
-                side.agrees(call, side.memory.difference(&self.kept))?;
-            }
         }
         self.agree(call)
     }
@@ -271,7 +265,7 @@ impl Comparison {
     }
 }
 
-/// An accepted call's answer in the library's terms.
+/// The plain bus's answer in the library's terms.
 fn expected(answer: &session::Answer, state: State) -> KfAnswer {
     let done = KfAnswer::new(0, state);
     match *answer {

@@ -1,9 +1,13 @@
 //! The proved library's C interface, and safe calls of it.
 
+#[cfg(feature = "bus")]
+mod bus;
+
 use crate::codec::{self, Operation};
 use crate::lent::State;
+
 #[cfg(feature = "bus")]
-use crate::lent::{Injection, Slot};
+pub use bus::{collect, round, start, submit};
 
 /// An operation as the library passes it: `code` tells the kind, `word` is AF
 /// or the value of a Configuration, `length` is DL or n, and `bytes` are the
@@ -80,59 +84,6 @@ mod exported {
     }
 }
 
-#[cfg(feature = "bus")]
-mod exported_bus {
-    use super::{KfAnswer, Slot, State};
-
-    extern "C" {
-        pub fn kf_start(
-            slots: *mut Slot,
-            slots_len: usize,
-            payload: *const u8,
-            payload_len: usize,
-            queues: *const u8,
-            queues_len: usize,
-            count: u32,
-        ) -> KfAnswer;
-        pub fn kf_submit(
-            state: State,
-            slots: *mut Slot,
-            slots_len: usize,
-            payload: *mut u8,
-            payload_len: usize,
-            queues: *mut u8,
-            queues_len: usize,
-            node: u32,
-            buf: *const u8,
-            buf_len: usize,
-        ) -> KfAnswer;
-        pub fn kf_round(
-            state: State,
-            slots: *mut Slot,
-            slots_len: usize,
-            payload: *mut u8,
-            payload_len: usize,
-            queues: *mut u8,
-            queues_len: usize,
-            injected: u32,
-            code: u32,
-            detector: u32,
-        ) -> KfAnswer;
-        pub fn kf_collect(
-            state: State,
-            slots: *const Slot,
-            slots_len: usize,
-            payload: *const u8,
-            payload_len: usize,
-            queues: *const u8,
-            queues_len: usize,
-            node: u32,
-            buf: *mut u8,
-            buf_len: usize,
-        ) -> KfAnswer;
-    }
-}
-
 // Sound for every argument: pointer and length come from one slice, and the
 // library reads within what it is lent and writes only to what is lent as `mut`.
 
@@ -149,100 +100,6 @@ pub fn data(buf: &[u8], op: KfOperation, next: usize) -> KfPart {
 #[inline]
 pub fn write(op: KfOperation, data: &[u8], buf: &mut [u8]) -> KfWritten {
     unsafe { exported::kf_write(op, data.as_ptr(), data.len(), buf.as_mut_ptr(), buf.len()) }
-}
-
-#[cfg(feature = "bus")]
-#[inline]
-pub fn start(slots: &mut [Slot], payload: &[u8], queues: &[u8], count: u32) -> KfAnswer {
-    unsafe {
-        exported_bus::kf_start(
-            slots.as_mut_ptr(),
-            slots.len(),
-            payload.as_ptr(),
-            payload.len(),
-            queues.as_ptr(),
-            queues.len(),
-            count,
-        )
-    }
-}
-
-#[cfg(feature = "bus")]
-#[inline]
-pub fn submit(
-    state: State,
-    slots: &mut [Slot],
-    payload: &mut [u8],
-    queues: &mut [u8],
-    node: u32,
-    buf: &[u8],
-) -> KfAnswer {
-    unsafe {
-        exported_bus::kf_submit(
-            state,
-            slots.as_mut_ptr(),
-            slots.len(),
-            payload.as_mut_ptr(),
-            payload.len(),
-            queues.as_mut_ptr(),
-            queues.len(),
-            node,
-            buf.as_ptr(),
-            buf.len(),
-        )
-    }
-}
-
-#[cfg(feature = "bus")]
-#[inline]
-pub fn round(
-    state: State,
-    slots: &mut [Slot],
-    payload: &mut [u8],
-    queues: &mut [u8],
-    injection: Option<Injection>,
-) -> KfAnswer {
-    let Injection { code, detector } = injection.unwrap_or(Injection { code: 0, detector: 0 });
-    unsafe {
-        exported_bus::kf_round(
-            state,
-            slots.as_mut_ptr(),
-            slots.len(),
-            payload.as_mut_ptr(),
-            payload.len(),
-            queues.as_mut_ptr(),
-            queues.len(),
-            injection.is_some().into(),
-            code,
-            detector,
-        )
-    }
-}
-
-#[cfg(feature = "bus")]
-#[inline]
-pub fn collect(
-    state: State,
-    slots: &[Slot],
-    payload: &[u8],
-    queues: &[u8],
-    node: u32,
-    buf: &mut [u8],
-) -> KfAnswer {
-    unsafe {
-        exported_bus::kf_collect(
-            state,
-            slots.as_ptr(),
-            slots.len(),
-            payload.as_ptr(),
-            payload.len(),
-            queues.as_ptr(),
-            queues.len(),
-            node,
-            buf.as_mut_ptr(),
-            buf.len(),
-        )
-    }
 }
 
 impl KfAnswer {

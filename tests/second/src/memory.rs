@@ -72,51 +72,44 @@ pub trait Calls {
     fn play(&self, memory: &mut Memory, sizes: Sizes, call: &Call) -> KfAnswer;
 }
 
-/// The proved library.
-#[cfg(feature = "bus")]
-pub struct Library;
-
-#[cfg(feature = "bus")]
-impl Calls for Library {
-    fn play(&self, memory: &mut Memory, sizes: Sizes, call: &Call) -> KfAnswer {
-        let Memory { state, slots, payload, queues, buffer } = memory;
-        let slots = &mut slots[..sizes.slots];
-        let payload = &mut payload[..sizes.payload];
-        let queues = &mut queues[..sizes.queues];
-        match *call {
-            Call::Start { count } => library::start(slots, payload, queues, count),
-            Call::Submit { node, buffer: ref submitted } => {
-                library::submit(*state, slots, payload, queues, node, submitted)
-            }
-            Call::Round { injection } => library::round(*state, slots, payload, queues, injection),
-            Call::Collect { node, room } => {
-                library::collect(*state, slots, payload, queues, node, &mut buffer[..room])
+/// The calls of a module in the library's form.
+macro_rules! calls_of {
+    ($side:ident, $module:ident) => {
+        impl Calls for $side {
+            fn play(&self, memory: &mut Memory, sizes: Sizes, call: &Call) -> KfAnswer {
+                let Memory { state, slots, payload, queues, buffer } = memory;
+                let slots = &mut slots[..sizes.slots];
+                let payload = &mut payload[..sizes.payload];
+                let queues = &mut queues[..sizes.queues];
+                match *call {
+                    Call::Start { count } => $module::start(slots, payload, queues, count),
+                    Call::Submit { node, buffer: ref submitted } => {
+                        $module::submit(*state, slots, payload, queues, node, submitted)
+                    }
+                    Call::Round { injection } => {
+                        $module::round(*state, slots, payload, queues, injection)
+                    }
+                    Call::Collect { node, room } => {
+                        let buffer = &mut buffer[..room];
+                        $module::collect(*state, slots, payload, queues, node, buffer)
+                    }
+                }
             }
         }
-    }
+    };
 }
 
 /// The bus of this package.
 pub struct Second;
 
-impl Calls for Second {
-    fn play(&self, memory: &mut Memory, sizes: Sizes, call: &Call) -> KfAnswer {
-        let Memory { state, slots, payload, queues, buffer } = memory;
-        let slots = &mut slots[..sizes.slots];
-        let payload = &mut payload[..sizes.payload];
-        let queues = &mut queues[..sizes.queues];
-        match *call {
-            Call::Start { count } => by_value::start(slots, payload, queues, count),
-            Call::Submit { node, buffer: ref submitted } => {
-                by_value::submit(*state, slots, payload, queues, node, submitted)
-            }
-            Call::Round { injection } => by_value::round(*state, slots, payload, queues, injection),
-            Call::Collect { node, room } => {
-                by_value::collect(*state, slots, payload, queues, node, &mut buffer[..room])
-            }
-        }
-    }
-}
+calls_of!(Second, by_value);
+
+/// The proved library.
+#[cfg(feature = "bus")]
+pub struct Library;
+
+#[cfg(feature = "bus")]
+calls_of!(Library, library);
 
 impl Memory {
     /// Memory that nothing is in yet.
@@ -130,7 +123,7 @@ impl Memory {
         }
     }
 
-    /// What the bus is made of, without allocating again.
+    /// Takes over all of another memory, without allocating again.
     pub fn copy_from(&mut self, other: &Memory) {
         self.state = other.state;
         self.slots.copy_from_slice(&other.slots);
@@ -147,7 +140,11 @@ impl Memory {
         differing("slot", &self.slots, &other.slots)
             .or_else(|| differing("payload byte", &self.payload, &other.payload))
             .or_else(|| differing("queue byte", &self.queues, &other.queues))
-            .or_else(|| differing("byte of the caller's buffer", &self.buffer, &other.buffer))
+            .or_else(|| self.buffer_difference(other))
+    }
+
+    pub fn buffer_difference(&self, other: &Memory) -> Option<String> {
+        differing("byte of the caller's buffer", &self.buffer, &other.buffer)
     }
 
     /// The queue of a node.

@@ -35,15 +35,19 @@ impl Options {
     }
 }
 
+/// Calls in which a wrong bus has to be found.
+const SELF_CHECK_CALLS: u64 = 1_000_000;
+
 /// Plays sessions until there are enough calls, or something differs.
-fn run(comparison: &mut Comparison, options: &Options) -> Result<(), Box<Difference>> {
-    let mut cases = Cases::new(options.seed);
-    while comparison.tally.calls() < options.calls {
-        comparison.session(&mut cases, options.calls - comparison.tally.calls())?;
+fn run(comparison: &mut Comparison, seed: u64, calls: u64) -> Result<(), Box<Difference>> {
+    let mut cases = Cases::new(seed);
+    while comparison.tally.calls() < calls {
+        comparison.session(&mut cases, calls - comparison.tally.calls())?;
     }
     Ok(())
 }
 
+/// The library takes part where its archive has the calls of the bus.
 fn sides() -> Vec<(&'static str, Box<dyn Calls>)> {
     vec![
         ("second bus", Box::new(Second)),
@@ -54,13 +58,13 @@ fn sides() -> Vec<(&'static str, Box<dyn Calls>)> {
 
 /// Compares the second bus with each wrong one; says whether every wrong one
 /// was found. The library is left out, so that only what was planted differs.
-fn self_check(options: &Options) -> bool {
+fn self_check(seed: u64) -> bool {
     let mut all = true;
     for (name, plant) in PLANTS {
         let sides: Vec<(_, Box<dyn Calls>)> =
             vec![("second bus", Box::new(Second)), ("wrong bus", Box::new(Planted(plant)))];
         let mut comparison = Comparison::new(sides);
-        let found = run(&mut comparison, options).is_err();
+        let found = run(&mut comparison, seed, SELF_CHECK_CALLS).is_err();
         let calls = comparison.tally.calls();
         let verdict = if found { "found after" } else { "not found in" };
         println!("self-check: {name}: {verdict} {calls} calls");
@@ -75,7 +79,7 @@ fn main() -> ExitCode {
         return ExitCode::from(2);
     };
     let start = Instant::now();
-    if !self_check(&options) {
+    if !self_check(options.seed) {
         println!("sessions: the comparison does not find what it should");
         return ExitCode::FAILURE;
     }
@@ -83,14 +87,17 @@ fn main() -> ExitCode {
         println!("sessions: {} wrong buses, all found", PLANTS.len());
         return ExitCode::SUCCESS;
     }
-    let mut comparison = Comparison::new(sides());
-    if let Err(difference) = run(&mut comparison, &options) {
+    let sides = sides();
+    let names: Vec<&str> = sides.iter().map(|(name, _)| *name).collect();
+    let mut comparison = Comparison::new(sides);
+    if let Err(difference) = run(&mut comparison, options.seed, options.calls) {
         println!("{difference}");
         println!("sessions: seed {}, call {}", options.seed, comparison.tally.calls());
         return ExitCode::FAILURE;
     }
     let tally = &comparison.tally;
     print!("{tally}");
+    println!("compared: {}, plain bus", names.join(", "));
     println!("seed {}, {:.1} s", options.seed, start.elapsed().as_secs_f64());
     let missing: Vec<String> = tally.missing().collect();
     if !missing.is_empty() {
