@@ -16,12 +16,14 @@ use crate::measure::measure;
 const ROUNDS: usize = SLOTS;
 
 /// The second bus behind calls like the library's: the state by value, and one
-/// record as the answer.
+/// record as the answer, under C's convention, which copies a state by value to
+/// the stack. Slices go as pointer and length under both.
+#[allow(improper_ctypes_definitions)]
 mod by_call {
     use super::{by_value, Injection, KfAnswer, Slot, State};
 
     #[inline(never)]
-    pub fn submit(
+    pub extern "C" fn submit(
         state: State,
         slots: &mut [Slot],
         payload: &mut [u8],
@@ -33,7 +35,7 @@ mod by_call {
     }
 
     #[inline(never)]
-    pub fn round(
+    pub extern "C" fn round(
         state: State,
         slots: &mut [Slot],
         payload: &mut [u8],
@@ -44,7 +46,7 @@ mod by_call {
     }
 
     #[inline(never)]
-    pub fn collect(
+    pub extern "C" fn collect(
         state: State,
         slots: &[Slot],
         payload: &[u8],
