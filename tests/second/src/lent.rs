@@ -6,8 +6,8 @@
 //! bytes from 4,096 j on. What holds nothing is left as it is.
 //!
 //! A call decides before it writes, so a refusal changes nothing. Nothing is
-//! allocated, and nothing is asked twice: this bus is the measure of another's
-//! speed.
+//! allocated, and the frames are gone through once a call: this bus is the
+//! measure of another's speed.
 
 use crate::bus::{LONGEST_BUFFER, PENDING_CAPACITY, QUEUE_CAPACITY};
 use crate::codec::{self, Operation};
@@ -262,18 +262,17 @@ impl<'a> Bus<'a> {
             Step::Wakeup if !node.is_bus_off() => self.wake_up(sender),
             Step::Reject(bytes) => {
                 let op = Operation::FormatError { length: bytes.len() as u16 };
-                append(&mut node.fill, queue_of(self.queues, sender), &op, bytes);
+                let queue = &mut self.queues[sender * QUEUE_CAPACITY..][..QUEUE_CAPACITY];
+                Queue { fill: &mut node.fill, bytes: queue }.append(&op, bytes);
             }
             Step::Transmit { .. } | Step::Wakeup | Step::Nothing => {}
         }
     }
 
     fn wake_up(&mut self, sender: usize) {
-        let queues = self.queues.chunks_exact_mut(QUEUE_CAPACITY);
-        for (number, (node, queue)) in self.state.attached_mut().iter_mut().zip(queues).enumerate()
-        {
-            if number != sender && !node.is_bus_off() {
-                append(&mut node.fill, queue, &Operation::Wakeup, &[]);
+        for (number, mut queue) in listening(self.state, self.queues) {
+            if number != sender {
+                queue.append(&Operation::Wakeup, &[]);
             }
         }
     }
@@ -303,24 +302,17 @@ impl<'a> Bus<'a> {
         let sender = place / PENDING_CAPACITY;
         let data = &self.payload[place * SLOT_BYTES..][..op.data_length()];
         let confirm = Operation::Confirm { id: self.slots[place].id };
-        let queues = self.queues.chunks_exact_mut(QUEUE_CAPACITY);
-        for (number, (node, queue)) in self.state.attached_mut().iter_mut().zip(queues).enumerate()
-        {
+        for (number, mut queue) in listening(self.state, self.queues) {
             if number == sender {
-                append(&mut node.fill, queue, &confirm, &[]);
-            } else if !node.is_bus_off() {
-                append(&mut node.fill, queue, op, data);
+                queue.append(&confirm, &[]);
+            } else {
+                queue.append(op, data);
             }
         }
     }
 
     fn report_error(&mut self, sender: usize, id: u32, injection: Injection) {
-        let queues = self.queues.chunks_exact_mut(QUEUE_CAPACITY);
-        for (number, (node, queue)) in self.state.attached_mut().iter_mut().zip(queues).enumerate()
-        {
-            if node.is_bus_off() {
-                continue;
-            }
+        for (number, mut queue) in listening(self.state, self.queues) {
             let error_flag = if number == injection.detector as usize {
                 codec::PRIMARY_ERROR_FLAG
             } else {
@@ -329,7 +321,7 @@ impl<'a> Bus<'a> {
             let is_sender = u8::from(number == sender);
             let error_code = injection.code as u8;
             let error = Operation::BusError { id, error_code, error_flag, is_sender };
-            append(&mut node.fill, queue, &error, &[]);
+            queue.append(&error, &[]);
         }
     }
 
@@ -353,11 +345,11 @@ impl<'a> Bus<'a> {
     fn discard_losers(&mut self) {
         let slots = self.slots.chunks_exact(PENDING_CAPACITY);
         let queues = self.queues.chunks_exact_mut(QUEUE_CAPACITY);
-        for ((node, slots), queue) in self.state.attached_mut().iter_mut().zip(slots).zip(queues) {
+        for ((node, slots), bytes) in self.state.attached_mut().iter_mut().zip(slots).zip(queues) {
             if node.discards() {
+                let mut queue = Queue { fill: &mut node.fill, bytes };
                 for slot in &slots[..node.pending.into()] {
-                    let lost = Operation::ArbitrationLost { id: slot.id };
-                    append(&mut node.fill, queue, &lost, &[]);
+                    queue.append(&Operation::ArbitrationLost { id: slot.id }, &[]);
                 }
                 node.pending = 0;
             }
@@ -365,16 +357,33 @@ impl<'a> Bus<'a> {
     }
 }
 
-fn queue_of(queues: &mut [u8; QUEUE_BYTES], number: usize) -> &mut [u8] {
-    &mut queues[number * QUEUE_CAPACITY..][..QUEUE_CAPACITY]
+/// The queue of a node.
+struct Queue<'a> {
+    fill: &'a mut u16,
+    bytes: &'a mut [u8],
 }
 
-/// Adds an operation to a queue that has room for it.
+impl Queue<'_> {
+    /// Adds an operation, for which there is room.
+    #[inline(always)]
+    fn append(&mut self, op: &Operation, data: &[u8]) {
+        let length = op.header_length() + data.len();
+        op.put(data, &mut self.bytes[usize::from(*self.fill)..][..length]);
+        *self.fill += length as u16;
+    }
+}
+
+/// The queues of the nodes that are not Bus-Off, with their numbers.
 #[inline(always)]
-fn append(fill: &mut u16, queue: &mut [u8], op: &Operation, data: &[u8]) {
-    let length = op.header_length() + data.len();
-    op.put(data, &mut queue[usize::from(*fill)..][..length]);
-    *fill += length as u16;
+fn listening<'a>(
+    state: &'a mut State,
+    queues: &'a mut [u8; QUEUE_BYTES],
+) -> impl Iterator<Item = (usize, Queue<'a>)> {
+    let queues = queues.chunks_exact_mut(QUEUE_CAPACITY);
+    let nodes = state.attached_mut().iter_mut().zip(queues).enumerate();
+    nodes
+        .filter(|(_, (node, _))| !node.is_bus_off())
+        .map(|(number, (node, bytes))| (number, Queue { fill: &mut node.fill, bytes }))
 }
 
 impl Slot {
