@@ -9,7 +9,7 @@
 
 /// Bytes of code and length, with which each operation starts.
 const START: usize = 8;
-const LARGEST_STANDARD_ID: u32 = 0x7FF;
+pub const LARGEST_STANDARD_ID: u32 = 0x7FF;
 pub const LARGEST_ID: u32 = 0x1FFF_FFFF;
 
 pub const FORMAT_ERROR: u32 = 0x01;
@@ -402,7 +402,9 @@ pub fn is_error_code(code: u8) -> bool {
     (1..=6).contains(&code)
 }
 
-fn is_fd_length(length: u16) -> bool {
+/// Whether the DL of an FD Transmit can be this.
+#[inline]
+pub fn is_fd_length(length: u16) -> bool {
     matches!(length, 0..=8 | 12 | 16 | 20 | 24 | 32 | 48 | 64)
 }
 

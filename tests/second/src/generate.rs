@@ -202,7 +202,7 @@ impl Generator {
     }
 
     /// `op` with one rule broken, often by one.
-    fn break_rule(&mut self, mut op: Operation, broken: Rule) -> Operation {
+    pub fn break_rule(&mut self, mut op: Operation, broken: Rule) -> Operation {
         let random = &mut self.random;
         match &mut op {
             Operation::CanTransmit { id, ide, rtr, length } => match broken {

@@ -1,21 +1,32 @@
-//! An independent second program of the simulated CAN bus: its own codec, bus
-//! and register, and the means to compare the codec with the proved library,
-//! call by call.
+//! An independent second program of the simulated CAN bus: its own codec, plain
+//! bus, bus over lent memory and register, and the means to compare codec and
+//! bus with the proved library, call by call.
 //!
 //! The folder of `libkettlefrost.a` is named by `KETTLEFROST_LIB`; then
 //!
-//! - `cargo test` holds codec, bus and register against W1 to W10 and the easy
+//! - `cargo test` holds codec, buses and register against W1 to W10 and the easy
 //!   errors, and demand 3 against random sessions,
 //! - `cargo run --release --bin compare` compares the two codecs on generated cases,
-//! - `cargo run --release --bin bench` measures them against each other.
+//! - `cargo run --release --bin sessions` compares the buses on random sessions,
+//! - `cargo run --release --bin bench` measures both sides against each other.
+//!
+//! With the feature `bus` the library's calls of the bus take part in the last two.
 
 pub mod bus;
+pub mod bus_cases;
+pub mod bus_comparison;
+pub mod bus_plants;
+pub mod bus_tally;
+pub mod by_value;
 pub mod calls;
 pub mod codec;
 pub mod comparison;
 pub mod counts;
 pub mod generate;
+pub mod invalid;
+pub mod lent;
 pub mod library;
+pub mod memory;
 pub mod plants;
 pub mod random;
 pub mod refusal;

@@ -1,6 +1,13 @@
 //! The proved library's C interface, and safe calls of it.
 
+#[cfg(feature = "bus")]
+mod bus;
+
 use crate::codec::{self, Operation};
+use crate::lent::State;
+
+#[cfg(feature = "bus")]
+pub use bus::{collect, round, start, submit};
 
 /// An operation as the library passes it: `code` tells the kind, `word` is AF
 /// or the value of a Configuration, `length` is DL or n, and `bytes` are the
@@ -42,7 +49,24 @@ pub struct KfPart {
     pub length: usize,
 }
 
+/// What a call of the bus answers: `number` is 0 or the refusal; of a round
+/// sender, ID, whether errored, and age, or that it was idle; of a collect the
+/// length; and the state after the call. What a call does not have is 0.
+#[repr(C)]
+#[derive(Clone, Copy, Debug, PartialEq, Eq)]
+pub struct KfAnswer {
+    pub number: u32,
+    pub id: u32,
+    pub age: u32,
+    pub length: u16,
+    pub sender: u8,
+    pub idle: u8,
+    pub errored: u8,
+    pub state: State,
+}
+
 const _: () = assert!(size_of::<KfOperation>() == 20 && size_of::<KfReading>() == 40);
+const _: () = assert!(size_of::<KfAnswer>() == 188);
 
 mod exported {
     use super::{KfOperation, KfPart, KfReading, KfWritten};
@@ -61,7 +85,7 @@ mod exported {
 }
 
 // Sound for every argument: pointer and length come from one slice, and the
-// library reads within what it is lent and writes only to `buf`.
+// library reads within what it is lent and writes only to what is lent as `mut`.
 
 #[inline]
 pub fn read(buf: &[u8], at: usize) -> KfReading {
@@ -76,6 +100,14 @@ pub fn data(buf: &[u8], op: KfOperation, next: usize) -> KfPart {
 #[inline]
 pub fn write(op: KfOperation, data: &[u8], buf: &mut [u8]) -> KfWritten {
     unsafe { exported::kf_write(op, data.as_ptr(), data.len(), buf.as_mut_ptr(), buf.len()) }
+}
+
+impl KfAnswer {
+    /// A call that is done, or refused with this number.
+    pub fn new(number: u8, state: State) -> KfAnswer {
+        let number = number.into();
+        KfAnswer { number, id: 0, age: 0, length: 0, sender: 0, idle: 0, errored: 0, state }
+    }
 }
 
 impl KfOperation {

@@ -1,20 +1,23 @@
-//! Throughput of the proved library against the second codec: the same input,
+//! Throughput of the proved library against the second program: the same input,
 //! in the same run, given as ratios.
 //!
 //! The library is reached by a call that the compiler cannot see through. The
-//! second codec is measured twice: behind a call of the same kind, and inlined
-//! into the loop.
+//! second program is measured twice: behind a call of the same kind, and as it
+//! is best used, inlined into the loop.
+
+#[cfg(feature = "bus")]
+mod bus;
+mod measure;
 
 use std::hint::black_box;
-use std::time::Instant;
 
 use second::codec::{self, Operation, Reading};
 use second::generate::Generator;
 use second::library::{self, KfOperation};
 
+use measure::{measure, Pass, SAMPLES};
+
 const STREAM_BYTES: usize = 64 * 1024;
-const SAMPLES: usize = 21;
-const SAMPLE_SECONDS: f64 = 0.025;
 const SEED: u64 = 11_898;
 
 /// The same operations in both codecs' forms and as bytes.
@@ -58,6 +61,11 @@ impl Stream {
                 return (op, data);
             }
         })
+    }
+
+    fn measure(&self, what: &str, ways: [Pass; 3]) {
+        let title = format!("{what}, {}", self.name);
+        measure(&title, "operation", self.operations.len(), ways);
     }
 }
 
@@ -148,64 +156,6 @@ fn encode_second(
     at as u64
 }
 
-/// One way to go through a stream once; gives a number to check it by.
-type Pass<'a> = Box<dyn FnMut() -> u64 + 'a>;
-
-/// Seconds for each pass, over `passes` of them.
-fn time(pass: &mut Pass, passes: usize) -> f64 {
-    let start = Instant::now();
-    for _ in 0..passes {
-        black_box(pass());
-    }
-    start.elapsed().as_secs_f64() / passes as f64
-}
-
-/// How many passes make a sample.
-fn passes_in_sample(pass: &mut Pass) -> usize {
-    let mut passes = 1;
-    loop {
-        let seconds = time(pass, passes) * passes as f64;
-        if seconds >= SAMPLE_SECONDS {
-            return passes;
-        }
-        let missing = (SAMPLE_SECONDS / seconds.max(1e-6)).clamp(1.2, 10.0);
-        passes = (passes as f64 * missing).ceil() as usize;
-    }
-}
-
-/// Median, smallest and largest.
-fn spread(mut values: Vec<f64>) -> (f64, f64, f64) {
-    values.sort_by(f64::total_cmp);
-    (values[values.len() / 2], values[0], values[values.len() - 1])
-}
-
-/// Measures the three ways in turn, sample by sample, and prints their row.
-fn measure(what: &str, stream: &Stream, mut ways: [Pass; 3]) {
-    let [library, by_call, inlined] = ways.each_mut().map(|pass| pass());
-    assert!(library == by_call && library == inlined, "{what}: the ways differ");
-
-    let passes = ways.each_mut().map(passes_in_sample);
-    let mut seconds = [const { Vec::new() }; 3];
-    for _ in 0..SAMPLES {
-        for way in 0..3 {
-            seconds[way].push(time(&mut ways[way], passes[way]));
-        }
-    }
-    let [library, by_call, inlined] = &seconds;
-    let nanoseconds =
-        |seconds: &Vec<f64>| spread(seconds.clone()).0 * 1e9 / stream.operations.len() as f64;
-    println!("{what}, {}:", stream.name);
-    println!("  library          {:7.2} ns per operation", nanoseconds(library));
-    for (name, second) in [("Rust by call", by_call), ("Rust inlined", inlined)] {
-        let ratios = second.iter().zip(library).map(|(second, library)| second / library);
-        let (median, smallest, largest) = spread(ratios.collect());
-        println!(
-            "  {name:<16} {:7.2} ns per operation, ratio {median:.2} ({smallest:.2}..{largest:.2})",
-            nanoseconds(second)
-        );
-    }
-}
-
 fn measure_decode(stream: &Stream) {
     let bytes = &stream.bytes[..];
     let ways: [Pass; 3] = [
@@ -213,7 +163,7 @@ fn measure_decode(stream: &Stream) {
         Box::new(|| decode_second(black_box(bytes), read_by_call)),
         Box::new(|| decode_second(black_box(bytes), codec::read)),
     ];
-    measure("decode", stream, ways);
+    stream.measure("decode", ways);
 }
 
 fn measure_encode(stream: &Stream) {
@@ -225,7 +175,7 @@ fn measure_encode(stream: &Stream) {
         Box::new(|| encode_second(black_box(stream), black_box(out_2), write_by_call)),
         Box::new(|| encode_second(black_box(stream), black_box(out_3), codec::write)),
     ];
-    measure("encode", stream, ways);
+    stream.measure("encode", ways);
     assert!(outs.iter().all(|out| *out == stream.bytes), "encode: the bytes differ");
 }
 
@@ -236,4 +186,6 @@ fn main() {
         measure_decode(&stream);
         measure_encode(&stream);
     }
+    #[cfg(feature = "bus")]
+    bus::measure_all();
 }

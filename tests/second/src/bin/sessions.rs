@@ -1,0 +1,109 @@
+//! Compares the proved library's bus with the second one on random sessions,
+//! and both with the plain bus.
+
+use std::env;
+use std::process::ExitCode;
+use std::time::Instant;
+
+use second::bus_cases::Cases;
+use second::bus_comparison::{Comparison, Difference};
+use second::bus_plants::{Planted, PLANTS};
+#[cfg(feature = "bus")]
+use second::memory::Library;
+use second::memory::{Calls, Second};
+
+const USAGE: &str = "usage: sessions [--seed S] [--calls N] [--plants]";
+
+struct Options {
+    seed: u64,
+    calls: u64,
+    plants: bool,
+}
+
+impl Options {
+    fn parse(mut args: impl Iterator<Item = String>) -> Option<Options> {
+        let mut options = Options { seed: 11_898, calls: 2_000_000, plants: false };
+        while let Some(option) = args.next() {
+            match option.as_str() {
+                "--seed" => options.seed = args.next()?.parse().ok()?,
+                "--calls" => options.calls = args.next()?.parse().ok()?,
+                "--plants" => options.plants = true,
+                _ => return None,
+            }
+        }
+        Some(options)
+    }
+}
+
+/// Calls in which a wrong bus has to be found.
+const SELF_CHECK_CALLS: u64 = 1_000_000;
+
+/// Plays sessions until there are enough calls, or something differs.
+fn run(comparison: &mut Comparison, seed: u64, calls: u64) -> Result<(), Box<Difference>> {
+    let mut cases = Cases::new(seed);
+    while comparison.tally.calls() < calls {
+        comparison.session(&mut cases, calls - comparison.tally.calls())?;
+    }
+    Ok(())
+}
+
+/// The library takes part where its archive has the calls of the bus.
+fn sides() -> Vec<(&'static str, Box<dyn Calls>)> {
+    vec![
+        ("second bus", Box::new(Second)),
+        #[cfg(feature = "bus")]
+        ("library", Box::new(Library)),
+    ]
+}
+
+/// Compares the second bus with each wrong one; says whether every wrong one
+/// was found. The library is left out, so that only what was planted differs.
+fn self_check(seed: u64) -> bool {
+    let mut all = true;
+    for (name, plant) in PLANTS {
+        let sides: Vec<(_, Box<dyn Calls>)> =
+            vec![("second bus", Box::new(Second)), ("wrong bus", Box::new(Planted(plant)))];
+        let mut comparison = Comparison::new(sides);
+        let found = run(&mut comparison, seed, SELF_CHECK_CALLS).is_err();
+        let calls = comparison.tally.calls();
+        let verdict = if found { "found after" } else { "not found in" };
+        println!("self-check: {name}: {verdict} {calls} calls");
+        all &= found;
+    }
+    all
+}
+
+fn main() -> ExitCode {
+    let Some(options) = Options::parse(env::args().skip(1)) else {
+        eprintln!("{USAGE}");
+        return ExitCode::from(2);
+    };
+    let start = Instant::now();
+    if !self_check(options.seed) {
+        println!("sessions: the comparison does not find what it should");
+        return ExitCode::FAILURE;
+    }
+    if options.plants {
+        println!("sessions: {} wrong buses, all found", PLANTS.len());
+        return ExitCode::SUCCESS;
+    }
+    let sides = sides();
+    let names: Vec<&str> = sides.iter().map(|(name, _)| *name).collect();
+    let mut comparison = Comparison::new(sides);
+    if let Err(difference) = run(&mut comparison, options.seed, options.calls) {
+        println!("{difference}");
+        println!("sessions: seed {}, call {}", options.seed, comparison.tally.calls());
+        return ExitCode::FAILURE;
+    }
+    let tally = &comparison.tally;
+    print!("{tally}");
+    println!("compared: {}, plain bus", names.join(", "));
+    println!("seed {}, {:.1} s", options.seed, start.elapsed().as_secs_f64());
+    let missing: Vec<String> = tally.missing().collect();
+    if !missing.is_empty() {
+        println!("sessions: never came up: {}", missing.join("; "));
+        return ExitCode::FAILURE;
+    }
+    println!("sessions: {} calls, 0 differences", tally.calls());
+    ExitCode::SUCCESS
+}
