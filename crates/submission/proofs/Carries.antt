@@ -47,7 +47,7 @@ module _ (s : State) (k j : ℕ) (l : List Slot) (p q : List ℕ) where
 
   wake-one : wakeAt k (held s l p q) j ≡ held (wokenAt s k j) l p (wakeupLaid s k j q)
   unfolding wakeupAt wokenAt wakeupLaid
-  wake-one = go (unreached s k j)
+  wake-one = go (unreached (nodeState s j .status) k j)
     where
       go : (t : Bool)
           → append (held s l p q) j (cond t [] (encode Wakeup []))

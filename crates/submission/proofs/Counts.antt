@@ -53,9 +53,9 @@ module _ (m : Memory) (k : ℕ) where
       go true x = refl
       go false x = refl
 
-  wakeup-length : (j : ℕ) → length (wakeupAt k m j) ≡ wakeupLength (m .state) k j
+  wakeup-length : (j : ℕ) → length (wakeupAt k m j) ≡ wakeupLength (entryAt m j .status) k j
   unfolding wakeupAt wakeupLength encode header
-  wakeup-length j = go (unreached (m .state) k j)
+  wakeup-length j = go (unreached (entryAt m j .status) k j)
     where
       go : (t : Bool) → length (cond t [] (encode Wakeup [])) ≡ cond t 0 8
       go true = refl

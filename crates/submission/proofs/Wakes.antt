@@ -3,7 +3,7 @@
 use mathlib.Core.Path.{_≡_, refl, sym, ap, _∙_}
 use mathlib.Core.Bool.{Bool, true, false, cond, _&&_}
 use mathlib.Core.List.{List}
-use Prim.Native.Nat.{ℕ, zero, suc, _+_, _-_, _≤_, _<_}
+use Prim.Native.Nat.{ℕ, zero, suc, _-_, _≤_, _<_}
 use native.Mathlib.Omega.{arith}
 use lib.Dec.{leb}
 use lib.Seq.{getD-set-other}
@@ -11,13 +11,13 @@ use borrow.Author.Tests.{leb-true, le-leb, lt-leb}
 use Rattle.operation.proofs.Tests.{both}
 use Rattle.bus_state.specs.Memory.{bytesPerQueue, noNode, nodeState}
 use Rattle.bus_state.specs.declared.State.{State}
-use Rattle.submission.specs.Counting.{addFill, unreached, wakeupLength, wakeupRoom, wokenAt, wokenFrom}
+use Rattle.submission.specs.Counting.{addFill, unreached, wakeupLength, fillWoken, wakeupRoom, wokenAt, wokenFrom}
 use Rattle.submission.specs.Carrying.{wakeupLaid, wakeupsLaid}
 
 -- one node, and those after it
 room-step : (s : State) (k j count : ℕ) → j < count
     → wakeupRoom s k j (count - j)
-    ≡ (leb (nodeState s j .fill + wakeupLength s k j) bytesPerQueue && wakeupRoom s k (suc j) (count - suc j))
+    ≡ (leb (fillWoken s k j) bytesPerQueue && wakeupRoom s k (suc j) (count - suc j))
 unfolding wakeupRoom
 room-step s k j count h =
     let n : count - j ≡ suc (count - suc j) = omega arith in
@@ -29,24 +29,24 @@ room-end s k j count h =
     let n : count - j ≡ 0 = omega arith in
     ap (λ (i : ℕ). wakeupRoom s k j i) n
 
-pub room-bad : (s : State) (k j count : ℕ) → j < count → bytesPerQueue < nodeState s j .fill + wakeupLength s k j
+pub room-bad : (s : State) (k j count : ℕ) → j < count → bytesPerQueue < fillWoken s k j
     → wakeupRoom s k j (count - j) ≡ false
 room-bad s k j count h e = room-step s k j count h ∙ rw (lt-leb _ bytesPerQueue e)
 
-pub room-good : (s : State) (k j count : ℕ) → j < count → nodeState s j .fill + wakeupLength s k j ≤ bytesPerQueue
+pub room-good : (s : State) (k j count : ℕ) → j < count → fillWoken s k j ≤ bytesPerQueue
     → wakeupRoom s k j (count - j) ≡ wakeupRoom s k (suc j) (count - suc j)
 room-good s k j count h e = room-step s k j count h ∙ rw (le-leb _ bytesPerQueue e)
 
 pub room-here : (s : State) (k j count : ℕ) → j < count → wakeupRoom s k j (count - j) ≡ true
-    → (nodeState s j .fill + wakeupLength s k j ≤ bytesPerQueue) × (wakeupRoom s k (suc j) (count - suc j) ≡ true)
+    → (fillWoken s k j ≤ bytesPerQueue) × (wakeupRoom s k (suc j) (count - suc j) ≡ true)
 room-here s k j count h e =
-    let p = both (leb (nodeState s j .fill + wakeupLength s k j) bytesPerQueue) _ (sym (room-step s k j count h) ∙ e) in
+    let p = both (leb (fillWoken s k j) bytesPerQueue) _ (sym (room-step s k j count h) ∙ e) in
     (leb-true _ bytesPerQueue (p .0), p .1)
 
 -- a node that gets a Wakeup leaves the entries of the others
 woken-other : (s : State) (k j i : ℕ) → j < i → nodeState (wokenAt s k j) i ≡ nodeState s i
 unfolding wokenAt
-woken-other s k j i h = go (unreached s k j)
+woken-other s k j i h = go (unreached (nodeState s j .status) k j)
   where
     go : (t : Bool) → nodeState (cond t s (addFill s j 8)) i ≡ nodeState s i
     go true = refl

@@ -11,7 +11,7 @@ use lib.Seq.{length-take-le}
 use Rattle.decoder.specs.Stream.{Item, bytesOf, itemsOf}
 use Rattle.plain_bus.specs.Held.{busOff}
 use Rattle.plain_bus.proofs.Whole.{items-nil}
-use Rattle.bus_state.specs.Memory.{Memory}
+use Rattle.bus_state.specs.Memory.{Memory, nodeState}
 use Rattle.bus_state.specs.declared.State.{State}
 use Rattle.submission.specs.Effects.{Taken}
 use Rattle.submission.specs.Counting.{isOff, addFill, addPending, cleared, onlyStatusSet, statusSet, unreached, wokenAt, wokenFrom, check, stateAfter, andThen, checkItems}
@@ -27,7 +27,7 @@ use Rattle.submission.proofs.Counts.{state-after-step}
 
 woken-count : (s : State) (k j : ℕ) → wokenAt s k j .count ≡ s .count
 unfolding wokenAt
-woken-count s k j = go (unreached s k j)
+woken-count s k j = go (unreached (nodeState s j .status) k j)
   where
     go : (t : Bool) → cond t s (addFill s j 8) .count ≡ s .count
     go true = refl

@@ -40,7 +40,7 @@ queueWith s j queues bytes = over queues (bytesPerQueue * j + nodeState s j .fil
 
 -- the queues after node j gets a Wakeup of node k, and after n nodes from number j on do
 unfoldable pub wakeupLaid : State → ℕ → ℕ → List ℕ → List ℕ
-wakeupLaid s k j queues = cond (unreached s k j) queues (queueWith s j queues (encode Wakeup []))
+wakeupLaid s k j queues = cond (unreached (nodeState s j .status) k j) queues (queueWith s j queues (encode Wakeup []))
 
 unfoldable pub wakeupsLaid : State → ℕ → ℕ → ℕ → List ℕ → List ℕ
 wakeupsLaid s k j zero queues = queues

@@ -48,22 +48,25 @@ statusSet s k status = onlyStatusSet (cond (eqb status busOff) (cleared s k) s) 
 
 -- ---- a Wakeup of node k: to every other node that is not Bus-Off
 
--- it does not go to node j
-abbrev pub unreached : State → ℕ → ℕ → Bool
-unreached s k j = eqb j k || isOff s j
+-- it does not go to node j, of this status
+abbrev pub unreached : ℕ → ℕ → ℕ → Bool
+unreached status k j = eqb j k || eqb status busOff
 
--- how many bytes it adds at node j
-unfoldable pub wakeupLength : State → ℕ → ℕ → ℕ
-wakeupLength s k j = cond (unreached s k j) 0 8
+-- how many bytes it adds there
+unfoldable pub wakeupLength : ℕ → ℕ → ℕ → ℕ
+wakeupLength status k j = cond (unreached status k j) 0 8
+
+abbrev pub fillWoken : State → ℕ → ℕ → ℕ
+fillWoken s k j = nodeState s j .fill + wakeupLength (nodeState s j .status) k j
 
 -- each of n queues from number j on has room for it
 unfoldable pub wakeupRoom : State → ℕ → ℕ → ℕ → Bool
 wakeupRoom s k j zero = true
-wakeupRoom s k j (suc n) = leb (nodeState s j .fill + wakeupLength s k j) bytesPerQueue && wakeupRoom s k (suc j) n
+wakeupRoom s k j (suc n) = leb (fillWoken s k j) bytesPerQueue && wakeupRoom s k (suc j) n
 
 -- node j gets it
 unfoldable pub wokenAt : State → ℕ → ℕ → State
-wokenAt s k j = cond (unreached s k j) s (addFill s j 8)
+wokenAt s k j = cond (unreached (nodeState s j .status) k j) s (addFill s j 8)
 
 -- n nodes from number j on get it
 unfoldable pub wokenFrom : State → ℕ → ℕ → ℕ → State

@@ -18,7 +18,7 @@ ghost use Rattle.bus_state.specs.Valid.{validState};
 ghost use Rattle.bus_model.specs.Calls.{submitted};
 ghost use Rattle.outcome.specs.Outcome.{endedBy, ended};
 ghost use Rattle.submission.specs.Effects.{configurationEffect, operationEffect, faultEffect, SmallRate, DataFit, Taken};
-ghost use Rattle.submission.specs.Counting.{isOff, addFill, addPending, rateSet, behaviourSet, statusSet, unreached, wakeupLength, wakeupRoom, wokenAt, wokenFrom, answerLength, checkTransmit, checkAnswer, checkWake, check, stateAfter, checkItems};
+ghost use Rattle.submission.specs.Counting.{isOff, addFill, addPending, rateSet, behaviourSet, statusSet, unreached, wakeupLength, fillWoken, wakeupRoom, wokenAt, wokenFrom, answerLength, checkTransmit, checkAnswer, checkWake, check, stateAfter, checkItems};
 ghost use Rattle.submission.specs.Carrying.{memoryAfter, memoryAfterAll, queueWith, wakeupLaid, wakeupsLaid};
 use bus_state::State;
 use decoder::Cursor;
@@ -212,31 +212,25 @@ fn set_status(s: State, k: usize, status: u8) -> State
 {
     let d = bus_state::entry(s, k);
     if status == operation::BUS_OFF {
-        let cleared = bus_state::with_entry(
-            s,
-            k,
-            bus_state::with_fill(bus_state::with_pending(d, 0), 0),
-        );
-        let e = bus_state::entry(cleared, k);
-        return bus_state::with_entry(cleared, k, bus_state::with_status(e, status));
+        let cleared = bus_state::with_fill(bus_state::with_pending(d, 0), 0);
+        return bus_state::with_entry(s, k, bus_state::with_status(cleared, status));
     }
     bus_state::with_entry(s, k, bus_state::with_status(d, status))
 }
 
 // ---- a Wakeup of node k, on the state
 
-fn is_unreached(s: State, k: usize, j: usize) -> bool
-    requires { ⌜ j < 8 ⌝ }
-    ensures { λ r. ⌜ r ≡ unreached s k j ⌝ }
+// It does not go to node j, of this status.
+fn is_unreached(status: u8, k: usize, j: usize) -> bool
+    ensures { λ r. ⌜ r ≡ unreached status k j ⌝ }
 {
-    (j == k) | is_off(s, j)
+    (j == k) | (status == operation::BUS_OFF)
 }
 
-fn wakeup_length(s: State, k: usize, j: usize) -> usize
-    requires { ⌜ j < 8 ⌝ }
-    ensures { λ r. ⌜ (r ≡ wakeupLength s k j) × (r ≤ 8) ⌝ }
+fn wakeup_length(status: u8, k: usize, j: usize) -> usize
+    ensures { λ r. ⌜ (r ≡ wakeupLength status k j) × (r ≤ 8) ⌝ }
 {
-    if is_unreached(s, k, j) {
+    if is_unreached(status, k, j) {
         0
     } else {
         WAKEUP_LENGTH
@@ -251,7 +245,7 @@ fn wakeup_has_room(s: State, k: usize) -> bool
     let mut j: usize = 0;
     while j < count {
         let d = bus_state::entry(s, j);
-        if QUEUE_CAPACITY < d.fill as usize + wakeup_length(s, k, j) {
+        if QUEUE_CAPACITY < d.fill as usize + wakeup_length(d.status, k, j) {
             return false;
         }
         j += 1;
@@ -260,10 +254,11 @@ fn wakeup_has_room(s: State, k: usize) -> bool
 }
 
 fn woken_at(s: State, k: usize, j: usize) -> State
-    requires { ⌜ (j < 8) × (nodeState s j .fill + wakeupLength s k j ≤ bytesPerQueue) ⌝ }
+    requires { ⌜ (j < 8) × (fillWoken s k j ≤ bytesPerQueue) ⌝ }
     ensures { λ r. ⌜ r ≡ wokenAt s k j ⌝ }
 {
-    if is_unreached(s, k, j) {
+    let d = bus_state::entry(s, j);
+    if is_unreached(d.status, k, j) {
         return s;
     }
     add_fill(s, j, WAKEUP_LENGTH)
@@ -448,15 +443,15 @@ fn answer(s: State, k: usize, bytes: &[u8], queues: &mut [u8]) -> State
 
 // Puts a Wakeup of node k into the queue of node j.
 fn wake_at(s: State, k: usize, j: usize, queues: &mut [u8]) -> State
-    requires { ⌜ (j < 8) × (nodeState s j .fill + wakeupLength s k j ≤ bytesPerQueue) ⌝ }
+    requires { ⌜ (j < 8) × (fillWoken s k j ≤ bytesPerQueue) ⌝ }
     requires { ⌜ length (now queues) ≡ queueBytes ⌝ }
     ensures after { λ r. ⌜ r ≡ wokenAt s k j ⌝ }
     ensures laid { λ _. ⌜ now (queues .exit) ≡ wakeupLaid s k j (now (queues .entry)) ⌝ }
 {
-    if is_unreached(s, k, j) {
+    let d = bus_state::entry(s, j);
+    if is_unreached(d.status, k, j) {
         return s;
     }
-    let d = bus_state::entry(s, j);
     lay_wakeup(queues, QUEUE_CAPACITY * j + d.fill as usize);
     add_fill(s, j, WAKEUP_LENGTH)
 }

@@ -1,10 +1,9 @@
 -- The loop's invariant: the queues from j on decide as all do.
 use Prim.Native.Nat.{_≤_, _-_}
-use Rattle.bus_state.specs.declared.NodeState.{NodeState}
 use Rattle.submission.proofs.Wakes.{room-end, room-bad, room-good}
 use Rattle.submission.specs.Counting.{wakeupRoom}
 use borrow.Author.Needs.{needs}
-use mathlib.Core.Path.{_≡_, sym, ap, _∙_}
+use mathlib.Core.Path.{_≡_, sym, _∙_}
 use native.Mathlib.Numerals.{add-one}
 use native.Mathlib.Omega.{arith}
 use Rattle.submission.proofs.wakeup_has_room.Statement.{statement}
@@ -42,7 +41,7 @@ returns c =
     let b = c .before .before .before .before in
     let a = b .before .before .before .args in
     let l = b .before .loop in
-    sym (room-bad (a .s) (a .k) (l .j) (a .s .count) (omega arith) (omega (arith, c .before .wakeup-length .ensures .0, ap (λ (d : NodeState). d .fill) (c .before .before .before .entry .ensures)))) ∙ l .inv .2
+    sym (room-bad (a .s) (a .k) (l .j) (a .s .count) (omega arith) (rw (← c .before .before .before .entry .ensures, ← c .before .wakeup-length .ensures .0) (c .if1 .taken))) ∙ l .inv .2
 
 add-j : tie.Need-add-j Inv-loop μ-loop
 add-j c = search needs
@@ -55,7 +54,7 @@ loop-again c =
     let b = c .before .before .before .before in
     let a = b .before .before .before .args in
     let l = b .before .loop in
-    (omega arith, omega arith, rw (add-one (l .j)) (sym (room-good (a .s) (a .k) (l .j) (a .s .count) (omega arith) (omega (arith, c .before .wakeup-length .ensures .0, ap (λ (d : NodeState). d .fill) (c .before .before .before .entry .ensures)))) ∙ l .inv .2))
+    (omega arith, omega arith, rw (add-one (l .j)) (sym (room-good (a .s) (a .k) (l .j) (a .s .count) (omega arith) (rw (← c .before .before .before .entry .ensures, ← c .before .wakeup-length .ensures .0) (c .if1 .left))) ∙ l .inv .2))
 
 returns-2 : tie.Need-returns-2 Inv-loop μ-loop
 returns-2 c =
