@@ -43,6 +43,7 @@ cleared s k = withEntry s k (entryFill (entryPending (nodeState s k) 0) 0)
 abbrev pub onlyStatusSet : State → ℕ → ℕ → State
 onlyStatusSet s k status = withEntry s k (entryStatus (nodeState s k) status)
 
+-- Status Bus-Off clears the node
 unfoldable pub statusSet : State → ℕ → ℕ → State
 statusSet s k status = onlyStatusSet (cond (eqb status busOff) (cleared s k) s) k status
 
@@ -56,6 +57,7 @@ unreached status k j = eqb j k || eqb status busOff
 unfoldable pub wakeupLength : ℕ → ℕ → ℕ → ℕ
 wakeupLength status k j = cond (unreached status k j) 0 8
 
+-- the fill of node j's queue with it
 abbrev pub fillWoken : State → ℕ → ℕ → ℕ
 fillWoken s k j = nodeState s j .fill + wakeupLength (nodeState s j .status) k j
 
@@ -73,6 +75,7 @@ unfoldable pub wokenFrom : State → ℕ → ℕ → ℕ → State
 wokenFrom s k j zero = s
 wokenFrom s k j (suc n) = wokenFrom (wokenAt s k j) k (suc j) n
 
+-- all nodes get it; from a Bus-Off node it has no effect
 abbrev pub wokenAll : State → ℕ → State
 wokenAll s k = cond (isOff s k) s (wokenFrom s k 0 (s .count))
 

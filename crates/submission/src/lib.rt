@@ -136,7 +136,7 @@ fn fault_effect(bytes: &[u8]) -> Effect
     Effect::Answer
 }
 
-// The step at a position of a buffer.
+// The step at a position before the end of a buffer.
 fn step_at(buffer: &[u8], at: usize) -> Step
     requires { ⌜ at < length (now buffer) ⌝ }
     ensures { λ r. ⌜ Taken (now (buffer .entry)) at r ⌝ }
@@ -407,7 +407,7 @@ fn lay_format_error(queues: &mut [u8], at: usize, bytes: &[u8])
     encoder::write_format_error(bytes.len() as u16, bytes, &mut queues[at..]);
 }
 
-// Puts a Transmit of node k into its next slot, and its data behind those of its other frames.
+// Puts a Transmit of node k into the slot after its last frame, and its data into that slot's bytes.
 fn put_frame(
     s: State,
     k: usize,
@@ -473,7 +473,7 @@ fn wake(s: State, k: usize, queues: &mut [u8]) -> State
     now
 }
 
-// Carries a step out, which can be done.
+// Carries a step out, which can be done. Whatever the other slots are, they stay.
 fn carry_step(
     s: State,
     k: usize,
@@ -526,7 +526,7 @@ fn carry_step(
     }
 }
 
-// Carries a buffer out, of which every step can be done.
+// Carries a buffer out, of which every step can be done, from the state and the sender's four slots.
 fn carry_buffer(
     s: State,
     k: usize,
@@ -553,7 +553,8 @@ fn carry_buffer(
     Carried { state, block }
 }
 
-// Submits a buffer of a node.
+// Submits a buffer of a node: NotAttached, BufferTooLong, then the refusal of the first step that can't be done; else all steps are
+// carried out.
 pub fn submit(
     s: State,
     a: [Slot; 32],
