@@ -1,14 +1,14 @@
 -- The step at a position of a buffer, from what was read there.
 -- Assumes nothing.
-use mathlib.Core.Path.{_≡_, refl, sym, ap, _∙_}
+use mathlib.Core.Path.{_≡_, refl, sym, ap, _∙_, subst}
 use mathlib.Core.Bool.{Bool, true, false, cond}
-use mathlib.Core.List.{List}
+use mathlib.Core.List.{List, [], _∷_}
 use Prim.Native.Nat.{ℕ, _+_, _-_, _≤_, _<_}
 use native.Mathlib.Omega.{arith}
-use lib.Dec.{eqb}
+use lib.Dec.{ltb, eqb}
 use lib.ListN.{length, take, drop, length-drop}
 use lib.Seq.{drop-drop, length-take-le}
-use borrow.Author.Tests.{eqb-false}
+use borrow.Author.Tests.{eqb-false, ltb-true, ltb-false}
 use Rattle.operation.specs.Format.{headLength}
 use Rattle.operation.specs.Rules.{legal}
 use Rattle.operation.specs.Kinds.{isTransmit}
@@ -24,13 +24,22 @@ use Rattle.decoder.specs.declared.Reading.the-variants.{AtEnd, Faulty, Read}
 use Rattle.decoder.proofs.Forward.{taken, forward}
 use Rattle.decoder.proofs.Found.{found}
 use Rattle.decoder.proofs.Payload.{data-found}
-use Rattle.decoder.proofs.Streams.{unroll}
+use Rattle.decoder.proofs.Streams.{front-nil, unroll}
 use Rattle.plain_bus.specs.Submit.{unanswered}
 use Rattle.bus_model.proofs.Lawful.{transmit-short}
-use Rattle.submission.specs.Effects.{operationEffect, faultEffect, SmallRate, DataFit, Taken}
+use Rattle.submission.specs.Effects.{operationEffect, faultEffect, SmallRate, DataFit, Taken, NextIs}
 use Rattle.submission.specs.declared.Effect.the-variants.{Nothing, Transmit, Answer, SetRate, SetBehaviour}
 use Rattle.submission.specs.declared.Step.{Step}
+use Rattle.submission.specs.declared.Next.{Next}
+use Rattle.submission.specs.declared.Next.the-variants as next
 use Rattle.submission.proofs.Settings.{rate-kind}
+
+pub drop-all : (at : ℕ) (s : List ℕ) → length s ≤ at → drop at s ≡ []
+drop-all at s h = empty (drop at s) (rw length-drop (omega arith))
+  where
+    empty : (l : List ℕ) → length l ≡ 0 → l ≡ []
+    empty [] e = refl
+    empty (x ∷ l) e = absurd (omega arith)
 
 -- ---- what was read is what stands at the front of the rest
 
@@ -65,7 +74,7 @@ read-found s at op next = go (front (drop at s))
         rw (a, q)
 
 -- before the end there is something
-pub not-end : (s : List ℕ) (at : ℕ) → at < length s → readAt s at ≡ AtEnd → ⊥
+not-end : (s : List ℕ) (at : ℕ) → at < length s → readAt s at ≡ AtEnd → ⊥
 unfolding readAt
 not-end s at h = go (front (drop at s)) refl
   where
@@ -76,6 +85,29 @@ not-end s at h = go (front (drop at s)) refl
         omega arith
     go (Fault m n) q e = let z : _≡_ {A = ℕ} 0 1 = cc in omega arith
     go (Found o n) q e = let z : _≡_ {A = ℕ} 0 1 = cc in omega arith
+
+pub at-end : (s : List ℕ) (at : ℕ) → readAt s at ≡ AtEnd → length s ≤ at
+at-end s at e = go (ltb at (length s)) refl
+  where
+    go : (t : Bool) → ltb at (length s) ≡ t → length s ≤ at
+    go true q = absurd (not-end s at (ltb-true at (length s) q) e)
+    go false q = ltb-false at (length s) q
+
+-- past it there is nothing
+before-end : (s : List ℕ) (at : ℕ) → (front (drop at s) ≡ End → ⊥) → at < length s
+before-end s at n = go (ltb at (length s)) refl
+  where
+    go : (t : Bool) → ltb at (length s) ≡ t → at < length s
+    go true q = ltb-true at (length s) q
+    go false q =
+        let h : length s ≤ at = ltb-false at (length s) q in
+        absurd (n (rw (drop-all at s h) front-nil))
+
+pub fault-before : (s : List ℕ) (at : ℕ) {number n : ℕ} → front (drop at s) ≡ Fault number n → at < length s
+fault-before s at e = before-end s at (λ q. let z : _≡_ {A = ℕ} 0 1 = cc in omega arith)
+
+pub found-before : (s : List ℕ) (at : ℕ) {op : Operation} {n : ℕ} → front (drop at s) ≡ Found op n → at < length s
+found-before s at e = before-end s at (λ q. let z : _≡_ {A = ℕ} 0 1 = cc in omega arith)
 
 -- it ends further on, and not past the buffer
 pub ended : (s : List ℕ) (at end : ℕ) {f : Front} → front (drop at s) ≡ f → taken f ≡ end - at → at < length s → (at < end) × (end ≤ length s)
@@ -176,3 +208,11 @@ module _ (s : List ℕ) (at end : ℕ) (r : Step) (h : at < length s) (q : r .en
         forward = rw q (b .0);
         within = rw q (b .1);
       }
+
+-- ---- what stands at a position
+
+pub next-end : (s : List ℕ) (at : ℕ) {n : Next} → NextIs s at n → n ≡ next.End → length s ≤ at
+next-end s at h e = subst (NextIs s at) e h
+
+pub next-taken : (s : List ℕ) (at : ℕ) {n : Next} {r : Step} → NextIs s at n → n ≡ next.At r → Taken s at r
+next-taken s at h e = subst (NextIs s at) e h

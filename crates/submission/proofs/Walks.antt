@@ -2,7 +2,7 @@
 -- Assumes nothing.
 use mathlib.Core.Path.{_≡_, refl, sym, ap, _∙_}
 use mathlib.Core.Bool.{Bool, true, false, cond}
-use mathlib.Core.List.{List, [], _∷_}
+use mathlib.Core.List.{List, []}
 use Prim.Native.Nat.{ℕ, zero, suc, _-_, _≤_, _<_}
 use native.Mathlib.Omega.{arith}
 use lib.Dec.{eqb}
@@ -22,6 +22,7 @@ use Rattle.submission.specs.declared.Step.{Step}
 use Rattle.submission.specs.declared.Verdict.{Verdict}
 use Rattle.submission.specs.declared.Verdict.the-variants.{Goes, FourPending, QueueFull}
 use Rattle.submission.proofs.Counts.{state-after-step}
+use Rattle.submission.proofs.Takes.{drop-all}
 
 -- ---- the number of nodes stays
 
@@ -61,13 +62,6 @@ count-kept s k Wake size = go (isOff s k)
     go false = from-count s k 0 (s .count)
 
 -- ---- no item is left at the end
-
-drop-all : (at : ℕ) (s : List ℕ) → length s ≤ at → drop at s ≡ []
-drop-all at s h = empty (drop at s) (rw length-drop (omega arith))
-  where
-    empty : (l : List ℕ) → length l ≡ 0 → l ≡ []
-    empty [] e = refl
-    empty (x ∷ l) e = absurd (omega arith)
 
 none-left : (s : List ℕ) (at : ℕ) → length s ≤ at → itemsOf (drop at s) ≡ []
 none-left s at h = rw (drop-all at s h) items-nil

@@ -16,6 +16,8 @@ use Rattle.bus_state.specs.Memory.{bytesPerSlot}
 use Rattle.submission.specs.declared.Effect.{Effect}
 use Rattle.submission.specs.declared.Effect.the-variants.{Nothing, Transmit, Answer, SetRate, SetBehaviour, SetStatus, Wake}
 use Rattle.submission.specs.declared.Step.{Step}
+use Rattle.submission.specs.declared.Next.{Next}
+use Rattle.submission.specs.declared.Next.the-variants.{End, At}
 
 -- a Configuration of kind 4 sets the behaviour, of kinds 1 to 3 a baud rate
 abbrev pub configurationEffect : ℕ → ℕ → Effect
@@ -60,3 +62,8 @@ pub record Taken (s : List ℕ) (at : ℕ) (r : Step) : Type 0 where
   pub fit : DataFit (r .effect) s at (r .end)
   pub forward : at < r .end
   pub within : r .end ≤ length s
+
+-- what stands at a position of a buffer: nothing at its end, and a step before
+abbrev pub NextIs : List ℕ → ℕ → Next → Type 0
+NextIs s at End = length s ≤ at
+NextIs s at (At r) = Taken s at r

@@ -17,7 +17,7 @@ ghost use Rattle.bus_state.specs.Memory.{held, nodeState, slotsPerNode, bytesPe
 ghost use Rattle.bus_state.specs.Valid.{validState};
 ghost use Rattle.bus_model.specs.Calls.{submitted};
 ghost use Rattle.outcome.specs.Outcome.{endedBy, ended};
-ghost use Rattle.submission.specs.Effects.{configurationEffect, operationEffect, faultEffect, SmallRate, DataFit, Taken};
+ghost use Rattle.submission.specs.Effects.{configurationEffect, operationEffect, faultEffect, SmallRate, DataFit, NextIs};
 ghost use Rattle.submission.specs.Counting.{isOff, addFill, addPending, rateSet, behaviourSet, statusSet, unreached, wakeupLength, fillWoken, wakeupRoom, wokenAt, wokenFrom, answerLength, checkTransmit, checkAnswer, checkWake, check, stateAfter, checkItems};
 ghost use Rattle.submission.specs.Carrying.{memoryAfter, memoryAfterAll, queueWith, wakeupLaid, wakeupsLaid};
 use bus_state::State;
@@ -43,6 +43,12 @@ enum Effect {
 struct Step {
     effect: Effect,
     end: usize,
+}
+
+// What stands at a position of a buffer: a step, or its end.
+enum Next {
+    End,
+    At(Step),
 }
 
 // Whether a step can be done, or its refusal.
@@ -136,28 +142,24 @@ fn fault_effect(bytes: &[u8]) -> Effect
     Effect::Answer
 }
 
-// The step at a position before the end of a buffer.
-fn step_at(buffer: &[u8], at: usize) -> Step
-    requires { ⌜ at < length (now buffer) ⌝ }
-    ensures { λ r. ⌜ Taken (now (buffer .entry)) at r ⌝ }
+// The step at a position of a buffer.
+fn step_at(buffer: &[u8], at: usize) -> Next
+    ensures { λ r. ⌜ NextIs (now (buffer .entry)) at r ⌝ }
 {
     let cursor = Cursor { at };
     match cursor.read(buffer) {
-        Reading::AtEnd => Step {
-            effect: Effect::Nothing,
-            end: buffer.len(),
-        },
+        Reading::AtEnd => Next::End,
         Reading::Faulty { number: _, next } => {
             let end = next.at;
             let effect = fault_effect(&buffer[at..end]);
-            Step { effect, end }
+            let step = Step { effect, end };
+            Next::At(step)
         }
         Reading::Read { op, next } => {
             let effect = operation_effect(op);
-            Step {
-                effect,
-                end: next.at,
-            }
+            let end = next.at;
+            let step = Step { effect, end };
+            Next::At(step)
         }
     }
 }
@@ -369,24 +371,29 @@ fn check_buffer(s: State, k: usize, buffer: &[u8]) -> Verdict
 {
     let mut state = s;
     let mut at: usize = 0;
-    while at < buffer.len() {
-        let step = step_at(buffer, at);
-        let effect = step.effect;
-        let size = step.end - at;
-        match check_step(state, k, effect, size) {
-            Verdict::FourPending => {
-                return Verdict::FourPending;
+    loop {
+        match step_at(buffer, at) {
+            Next::End => {
+                return Verdict::Goes;
             }
-            Verdict::QueueFull => {
-                return Verdict::QueueFull;
-            }
-            Verdict::Goes => {
-                state = state_after(state, k, effect, size);
-                at = step.end;
+            Next::At(step) => {
+                let effect = step.effect;
+                let size = step.end - at;
+                match check_step(state, k, effect, size) {
+                    Verdict::FourPending => {
+                        return Verdict::FourPending;
+                    }
+                    Verdict::QueueFull => {
+                        return Verdict::QueueFull;
+                    }
+                    Verdict::Goes => {
+                        state = state_after(state, k, effect, size);
+                        at = step.end;
+                    }
+                }
             }
         }
     }
-    Verdict::Goes
 }
 
 // ---- carrying it out
@@ -543,14 +550,19 @@ fn carry_buffer(
     let mut state = s;
     let mut block = four;
     let mut at: usize = 0;
-    while at < buffer.len() {
-        let step = step_at(buffer, at);
-        let after = carry_step(state, k, step, at, buffer, block, payload, queues);
-        state = after.state;
-        block = after.block;
-        at = step.end;
+    loop {
+        match step_at(buffer, at) {
+            Next::End => {
+                return Carried { state, block };
+            }
+            Next::At(step) => {
+                let after = carry_step(state, k, step, at, buffer, block, payload, queues);
+                state = after.state;
+                block = after.block;
+                at = step.end;
+            }
+        }
     }
-    Carried { state, block }
 }
 
 // Submits a buffer of a node: NotAttached, BufferTooLong, then the refusal of the first step that can't be done; else all steps are
