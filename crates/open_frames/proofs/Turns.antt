@@ -1,0 +1,139 @@
+-- One turn of the loop over a buffer: what is read at a position is the next item's step, and the position moves on.
+-- Assumes nothing.
+use mathlib.Core.Path.{_≡_, refl, sym, ap, _∙_}
+use mathlib.Core.List.{List, [], _∷_}
+use Prim.Native.Nat.{ℕ, _+_, _-_, _≤_, _<_}
+use native.Mathlib.Omega.{arith}
+use lib.ListN.{length, take, drop, length-drop}
+use lib.Seq.{drop-drop}
+use Rattle.operation.specs.declared.Operation.{Operation}
+use Rattle.operation.specs.declared.Operation.the-variants.{FormatError, CanTransmit, FdTransmit, XlTransmit, Confirm, ArbitrationLost, BusError, Configuration, Status, Wakeup}
+use Rattle.decoder.specs.Front.{front}
+use Rattle.decoder.specs.Reading.{placed, readAt}
+use Rattle.decoder.specs.Stream.{Item, operation, fault, itemsOf}
+use Rattle.decoder.specs.declared.Front.{Front}
+use Rattle.decoder.specs.declared.Front.the-variants.{End, Fault, Found}
+use Rattle.decoder.specs.declared.Reading.{Reading}
+use Rattle.decoder.specs.declared.Reading.the-variants.{AtEnd, Faulty, Read}
+use Rattle.decoder.proofs.Forward.{taken, forward}
+use Rattle.decoder.proofs.Streams.{front-nil, unroll}
+use Rattle.plain_bus.specs.Refusal.{RegisterRefusal, registerFull, registerDiffers}
+use Rattle.plain_bus.specs.Register.{Register, Update, updated, rejected, updates, enterItem, readItem}
+use Rattle.open_frames.specs.Kept.{openIn}
+use Rattle.open_frames.specs.Steps.{given, stepOf}
+use Rattle.open_frames.specs.declared.Step.{Step}
+use Rattle.open_frames.specs.declared.Verdict.{Verdict}
+use Rattle.open_frames.specs.declared.Verdict.the-variants.{Done, Full, Differs}
+use Rattle.open_frames.proofs.Verdict.{the-type}
+use denote.Enum.Declared.{tagOf}
+use types.Run.{OneOf}
+use mathlib.Core.Logic.{⊎-elim}
+
+-- a reading that is not at the end leaves less to read
+abbrev pub Nearer : List ℕ → ℕ → Reading → Type 0
+Nearer s at AtEnd = Unit {0}
+Nearer s at (Faulty number next) = length s - next .at < length s - at
+Nearer s at (Read op next) = length s - next .at < length s - at
+
+pub nearer : (s : List ℕ) (at : ℕ) {x : Reading} → readAt s at ≡ x → Nearer s at x
+unfolding readAt
+nearer s at e = rw e at (go (front (drop at s)) (ahead (drop at s)))
+  where
+    Ahead : List ℕ → Front → Type 0
+    Ahead l End = Unit {0}
+    Ahead l (Fault number n) = (1 ≤ n) × (n ≤ length l)
+    Ahead l (Found op n) = (1 ≤ n) × (n ≤ length l)
+
+    some : (l : List ℕ) (f : Front) → (1 ≤ taken f) × (taken f ≤ length l) → Ahead l f
+    some l End m = tt
+    some l (Fault number n) m = m
+    some l (Found op n) m = m
+
+    ahead : (l : List ℕ) → Ahead l (front l)
+    ahead [] = rw front-nil tt
+    ahead (b ∷ l) = some (b ∷ l) (front (b ∷ l)) (forward (b ∷ l) (omega arith))
+
+    go : (f : Front) → Ahead (drop at s) f → Nearer s at (placed at f)
+    go End m = tt
+    go (Fault number n) m = omega (arith, length-drop at s)
+    go (Found op n) m = omega (arith, length-drop at s)
+
+-- the steps from a position on, by what is read there
+module _ (step : Register → Item → Update) where
+  abbrev pub onward : List ℕ → Register → Reading → Update
+  onward s r AtEnd = updated r
+  onward s r (Faulty number next) = updates step (itemsOf (drop (next .at) s)) (step r (fault number []))
+  onward s r (Read op next) = updates step (itemsOf (drop (next .at) s)) (step r (operation op []))
+
+  pub turn : ((r : Register) (number : ℕ) (bytes : List ℕ) → step r (fault number bytes) ≡ step r (fault number []))
+      → ((r : Register) (op : Operation) (bytes : List ℕ) → step r (operation op bytes) ≡ step r (operation op []))
+      → (s : List ℕ) (at : ℕ) (r : Register) {x : Reading} → readAt s at ≡ x
+      → updates step (itemsOf (drop at s)) (updated r) ≡ onward s r x
+  unfolding readAt updates
+  turn faults operations s at r e = go (front (drop at s)) refl ∙ ap (onward s r) e
+    where
+      go : (f : Front) → front (drop at s) ≡ f → updates step (itemsOf (drop at s)) (updated r) ≡ onward s r (placed at f)
+      go End q = rw (unroll (drop at s) q)
+      go (Fault number n) q =
+          rw (unroll (drop at s) q, drop-drop n at s)
+          (ap (updates step (itemsOf (drop (at + n) s))) (faults r number (take n (drop at s))))
+      go (Found op n) q =
+          rw (unroll (drop at s) q, drop-drop n at s)
+          (ap (updates step (itemsOf (drop (at + n) s))) (operations r op (take n (drop at s))))
+
+  stays : (is : List Item) (x : RegisterRefusal) → rejected x ≡ updates step is (rejected x)
+  unfolding updates
+  stays [] x = refl
+  stays (i ∷ is) x = refl
+
+  -- a refusal stays, whatever follows
+  pub refused : (is : List Item) (s : Step) {u : Update} → OneOf (1 ∷ 2 ∷ []) (tagOf the-type (s .verdict)) → stepOf s ≡ u
+      → stepOf s ≡ updates step is u
+  refused is s h e = go (s .verdict) h ∙ ap (updates step is) e
+    where
+      go : (v : Verdict) → OneOf (1 ∷ 2 ∷ []) (tagOf the-type v) → given v (s .register) ≡ updates step is (given v (s .register))
+      go Done h = absurd (⊎-elim (λ w. omega arith) (λ w. omega arith) h)
+      go Full h = stays is registerFull
+      go Differs h = stays is registerDiffers
+
+  -- what is done is where the rest goes on
+  pub goes-on : (is : List Item) (s : Step) {u : Update} → s .verdict ≡ Done → stepOf s ≡ u
+      → updates step is (updated (openIn (s .register))) ≡ updates step is u
+  goes-on is s v e = ap (λ (w : Verdict). updates step is (given w (s .register))) (sym v) ∙ ap (updates step is) e
+
+-- the bytes of an item are not looked at
+enter-fault : (r : Register) (number : ℕ) (bytes : List ℕ) → enterItem r (fault number bytes) ≡ enterItem r (fault number [])
+unfolding enterItem
+enter-fault r number bytes = refl
+
+enter-operation : (r : Register) (op : Operation) (bytes : List ℕ) → enterItem r (operation op bytes) ≡ enterItem r (operation op [])
+unfolding enterItem
+enter-operation r (FormatError n) bytes = refl
+enter-operation r (CanTransmit id ide rtr dl) bytes = refl
+enter-operation r (FdTransmit id ide brs esi dl) bytes = refl
+enter-operation r (XlTransmit id ide sec sdt vcid af dl) bytes = refl
+enter-operation r (Confirm id) bytes = refl
+enter-operation r (ArbitrationLost id) bytes = refl
+enter-operation r (BusError id code flag sender) bytes = refl
+enter-operation r (Configuration kind value) bytes = refl
+enter-operation r (Status status) bytes = refl
+enter-operation r Wakeup bytes = refl
+
+read-fault : (r : Register) (number : ℕ) (bytes : List ℕ) → readItem r (fault number bytes) ≡ readItem r (fault number [])
+unfolding readItem
+read-fault r number bytes = refl
+
+read-operation : (r : Register) (op : Operation) (bytes : List ℕ) → readItem r (operation op bytes) ≡ readItem r (operation op [])
+unfolding readItem
+read-operation r op bytes = refl
+
+pub enter-turn : (s : List ℕ) (at : ℕ) (r : Register) {x : Reading} → readAt s at ≡ x
+    → updates enterItem (itemsOf (drop at s)) (updated r) ≡ onward enterItem s r x
+enter-turn = turn enterItem enter-fault enter-operation
+
+pub read-turn : (s : List ℕ) (at : ℕ) (r : Register) {x : Reading} → readAt s at ≡ x
+    → updates readItem (itemsOf (drop at s)) (updated r) ≡ onward readItem s r x
+read-turn = turn readItem read-fault read-operation
+
+pub enter-kind : (r : Register) {op kind : Operation} → op ≡ kind → enterItem r (operation kind []) ≡ enterItem r (operation op [])
+enter-kind r e = sym (ap (λ (o : Operation). enterItem r (operation o [])) e)
