@@ -2,14 +2,14 @@
 -- Assumes nothing.
 use mathlib.Core.Path.{_≡_, refl, sym, ap, _∙_}
 use Prim.Native.Nat.{ℕ, _+_}
-use mathlib.Core.Bool.{Bool, true, false}
-use mathlib.Core.List.{List, []}
+use mathlib.Core.Bool.{false}
+use mathlib.Core.List.{List}
 use lib.Dec.{eqb}
 use lib.ListN.{length, take, drop}
 use lib.Seq.{take-append-seam}
 use Rattle.buffers.specs.Parts.{over}
 use Rattle.plain_bus.specs.Refusal.{Refusal, numberOf, badNodeCount, invalid, notAttached, bufferTooLong, badInjection, fourPending, queueFull, roundsUsedUp, roomTooSmall}
-use Rattle.plain_bus.specs.Calls.{Answer, refused, accepted, idle, carried, collected, isDone, bytesGiven}
+use Rattle.plain_bus.specs.Calls.{Answer, refused, accepted, idle, carried, collected, isDone, answerNumber, bytesGiven}
 use Rattle.bus_state.specs.Memory.{Memory, held}
 use Rattle.bus_state.specs.declared.State.{State}
 use Rattle.bus_model.specs.Calls.{Reply, answers, Result, bufferAfter}
@@ -68,7 +68,7 @@ refusal-row roundsUsedUp s = refl
 refusal-row roomTooSmall s = refl
 
 -- which is not 0
-pub refusal-number : (r : Refusal) → eqb (numberOf r) 0 ≡ false
+refusal-number : (r : Refusal) → eqb (numberOf r) 0 ≡ false
 refusal-number badNodeCount = refl
 refusal-number invalid = refl
 refusal-number notAttached = refl
@@ -80,12 +80,30 @@ refusal-number roundsUsedUp = refl
 refusal-number roomTooSmall = refl
 
 -- number 0 says that the call was done
-pub done-number : (a : Answer) (s : State) → eqb (answerOf (outcomeIs (answers a)) s .number) 0 ≡ isDone a
-done-number (refused r) s = rw (refusal-row r s) (refusal-number r)
-done-number accepted s = refl
-done-number idle s = refl
-done-number (carried sender id errored age) s = refl
-done-number (collected bytes) s = refl
+pub done-number : (a : Answer) → eqb (answerNumber a) 0 ≡ isDone a
+done-number (refused r) = refusal-number r
+done-number accepted = refl
+done-number idle = refl
+done-number (carried sender id errored age) = refl
+done-number (collected bytes) = refl
+
+answer-number : (a : Answer) (s : State) → answerOf (outcomeIs (answers a)) s .number ≡ answerNumber a
+answer-number (refused r) s = rw (refusal-row r s)
+answer-number accepted s = refl
+answer-number idle s = refl
+answer-number (carried sender id errored age) s = refl
+answer-number (collected bytes) s = refl
+
+-- a result with an answer of the plain bus leaves its number
+pub left-number : (r : Result) (a : Answer) → r .reply ≡ answers a → leaves r .answer .number ≡ answerNumber a
+left-number r a e =
+    ap (λ (x : Reply). answerOf (outcomeIs x) (r .memory .state) .number) e ∙ answer-number a (r .memory .state)
+
+-- and that answer, but for the state
+pub left-answer : (r : Result) (a : Answer) → r .reply ≡ answers a
+    → leaves r .answer ≡ answerOf (outcomeIs (answers a)) (leaves r .answer .state)
+left-answer r a e =
+    ap (λ (x : Reply). answerOf (outcomeIs x) (r .memory .state)) e ∙ ap (answerOf (outcomeIs (answers a))) (sym (left-state r))
 
 -- as much of the caller's buffer as the answer's length says is what the plain bus gave
 pub front-given : (a : Answer) (s : State) (buffer : List ℕ)
@@ -96,8 +114,3 @@ front-given accepted s buffer = refl
 front-given idle s buffer = refl
 front-given (carried sender id errored age) s buffer = refl
 front-given (collected bytes) s buffer = take-append-seam bytes (drop (0 + length bytes) buffer)
-
--- a result with the answer of the plain bus leaves that answer, but for the state
-pub left-answer : (r : Result) (a : Answer) → r .reply ≡ answers a → leaves r .answer ≡ answerOf (outcomeIs (answers a)) (leaves r .answer .state)
-left-answer r a e =
-    ap (λ (x : Reply). answerOf (outcomeIs x) (r .memory .state)) e ∙ ap (answerOf (outcomeIs (answers a))) (sym (left-state r))
