@@ -50,7 +50,8 @@ none-arbitrated (carriedOut e w l q room last) = refl
 pub given-same : {m : Memory} {b : Bus} → Follows m b → (c : Call) → givenBy m c ≡ bytesGiven (session.call b (plainCall c) .answer)
 unfolding givenBy callIn
 given-same {b = b} f (submits node buffer u) = none-submitted (came b (session.submission node buffer))
-given-same {b = b} f (arbitrates present code detector) = none-arbitrated (came b (session.round (injectionFrom present code detector)))
+given-same {b = b} f (arbitrates present code detector) =
+    none-arbitrated (came b (session.round (injectionFrom present code detector)))
 given-same {m} {b} f (collects node buffer) =
     let r = collectIn m node (length buffer) in
     let e = refines f (collects node buffer) .answer in
@@ -62,7 +63,8 @@ same-answer {m} {b} f c = record {
   bytes = given-same f c;
 }
 
-pub follows : {m : Memory} {b : Bus} → Follows m b → (c : Call) → Follows (memoryOf (leftBy m c)) (session.call b (plainCall c) .bus)
+pub follows : {m : Memory} {b : Bus} → Follows m b → (c : Call)
+    → Follows (memoryOf (leftBy m c)) (session.call b (plainCall c) .bus)
 follows {m} {b} f c =
     let r = refines f c in
     rw (left-call m c, left-memory (callIn m (plainCall c))) (record { bus = r .bus; valid = r .valid; typed = r .typed })

@@ -117,5 +117,6 @@ demand2 = record {
   byRules = by-rules;
   round = λ m present code detector p.
       let e = injectionFrom present code detector in
-      round-is m e (valid-good m (p .typed) (p .valid) .valid) (came (view m) (session.round e)) (round-refines m e (p .typed) (p .valid));
+      round-is m e (valid-good m (p .typed) (p .valid) .valid) (came (view m) (session.round e))
+      (round-refines m e (p .typed) (p .valid));
 }

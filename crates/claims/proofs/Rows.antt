@@ -2,6 +2,7 @@
 -- Assumes nothing.
 use mathlib.Core.Path.{_≡_, refl, ap}
 use Prim.Native.Nat.{ℕ}
+use mathlib.Core.Logic.{_⊎_, inl, inr}
 use mathlib.Core.Bool.{Bool, true, false, cond, not}
 use mathlib.Core.List.{List, [], _∷_}
 use lib.Dec.{leb, ltb, eqb}
@@ -12,7 +13,7 @@ use Rattle.operation.specs.Kinds.{idOf}
 use Rattle.decoder.specs.Stream.{Item, operation, fault, itemsOf}
 use Rattle.plain_bus.specs.Closing.{closes}
 use Rattle.plain_bus.specs.Held.{Bus, maxPending, lastRound, isOff, withQueue, attached, nodeAt, withNode, hasRoom, allHaveRoom}
-use Rattle.plain_bus.specs.Refusal.{badNodeCount, invalid, notAttached, bufferTooLong, badInjection, fourPending, queueFull, roundsUsedUp, roomTooSmall, RegisterRefusal, registerNumber, invalidRegister, registerFull, registerDiffers}
+use Rattle.plain_bus.specs.Refusal.{notAttached, bufferTooLong, badInjection, fourPending, queueFull, roundsUsedUp, roomTooSmall, RegisterRefusal, registerNumber, invalidRegister, registerFull, registerDiffers}
 use Rattle.plain_bus.specs.Submit.{Step, done, fails, takeTransmit, wakeupFor, takeWakeup, formatError, answerFormatError, unanswered, takeItem, takeItems}
 use Rattle.plain_bus.specs.Order.{Entry, Winner, nobody, wins, winner}
 use Rattle.plain_bus.specs.Round.{Injection, isErrored, winnerId, owed, afterRound, age}
@@ -26,46 +27,39 @@ use Rattle.claims.specs.Demands.{firstRow, stepNumber, isIdle, roomFor, 
 -- a step fails by 8 or 9 only
 abbrev ByStep : Step → Type 0
 ByStep (done b) = Unit {0}
-ByStep (fails badNodeCount) = ⊥
-ByStep (fails invalid) = ⊥
-ByStep (fails notAttached) = ⊥
-ByStep (fails bufferTooLong) = ⊥
-ByStep (fails badInjection) = ⊥
-ByStep (fails fourPending) = Unit {0}
-ByStep (fails queueFull) = Unit {0}
-ByStep (fails roundsUsedUp) = ⊥
-ByStep (fails roomTooSmall) = ⊥
+ByStep (fails r) = (r ≡ fourPending) ⊎ (r ≡ queueFull)
 
-either-done : (t : Bool) (x y : Step) → ByStep x → ByStep y → ByStep (cond t x y)
-either-done true x y p q = p
-either-done false x y p q = q
+step-either : (t : Bool) (x y : Step) → ByStep x → ByStep y → ByStep (cond t x y)
+step-either true x y p q = p
+step-either false x y p q = q
 
 transmit-step : (b : Bus) (k : ℕ) (op : Operation) (bytes : List ℕ) → ByStep (takeTransmit b k op bytes)
 unfolding takeTransmit
 transmit-step b k op bytes =
-    either-done (isOff (nodeAt b k)) _ _ tt (either-done (leb maxPending (length (nodeAt b k .pending))) _ _ tt tt)
+    step-either (isOff (nodeAt b k)) _ _ tt (step-either (leb maxPending (length (nodeAt b k .pending))) _ _ (inl refl) tt)
 
 answer-step : (b : Bus) (k : ℕ) (bytes : List ℕ) → ByStep (answerFormatError b k bytes)
 unfolding answerFormatError
-answer-step b k bytes = either-done (hasRoom (nodeAt b k) (formatError bytes)) _ _ tt tt
+answer-step b k bytes = step-either (hasRoom (nodeAt b k) (formatError bytes)) _ _ tt (inr refl)
 
 wakeup-step : (b : Bus) (k : ℕ) → ByStep (takeWakeup b k)
 unfolding takeWakeup
-wakeup-step b k = either-done (isOff (nodeAt b k)) _ _ tt (either-done (allHaveRoom (wakeupFor k) b) _ _ tt tt)
+wakeup-step b k = step-either (isOff (nodeAt b k)) _ _ tt (step-either (allHaveRoom (wakeupFor k) b) _ _ tt (inr refl))
 
 item-step : (b : Bus) (k : ℕ) (i : Item) → ByStep (takeItem b k i)
 unfolding takeItem
 item-step b k (operation (FormatError n) bytes) = tt
 item-step b k (operation (CanTransmit id ide rtr dl) bytes) = transmit-step b k (CanTransmit id ide rtr dl) bytes
 item-step b k (operation (FdTransmit id ide brs esi dl) bytes) = transmit-step b k (FdTransmit id ide brs esi dl) bytes
-item-step b k (operation (XlTransmit id ide sec sdt vcid af dl) bytes) = transmit-step b k (XlTransmit id ide sec sdt vcid af dl) bytes
+item-step b k (operation (XlTransmit id ide sec sdt vcid af dl) bytes) =
+    transmit-step b k (XlTransmit id ide sec sdt vcid af dl) bytes
 item-step b k (operation (Confirm id) bytes) = answer-step b k bytes
 item-step b k (operation (ArbitrationLost id) bytes) = answer-step b k bytes
 item-step b k (operation (BusError id code flag sender) bytes) = answer-step b k bytes
 item-step b k (operation (Configuration kind value) bytes) = tt
 item-step b k (operation (Status status) bytes) = tt
 item-step b k (operation Wakeup bytes) = wakeup-step b k
-item-step b k (fault number bytes) = either-done (unanswered bytes) _ _ tt (answer-step b k bytes)
+item-step b k (fault number bytes) = step-either (unanswered bytes) _ _ tt (answer-step b k bytes)
 
 items-step : (k : ℕ) (is : List Item) (s : Step) → ByStep s → ByStep (takeItems k is s)
 unfolding takeItems
@@ -77,7 +71,8 @@ submit-number : (b : Bus) (k : ℕ) (buffer : List ℕ)
     → answerNumber (submit b k buffer .answer) ≡ firstRow (plainRows b (session.submission k buffer))
 unfolding submit plainRows firstRow
 submit-number b k buffer =
-    go (attached b k) (ltb maxSubmit (length buffer)) (takeItems k (itemsOf buffer) (done b)) (items-step k (itemsOf buffer) (done b) tt)
+    go (attached b k) (ltb maxSubmit (length buffer)) (takeItems k (itemsOf buffer) (done b))
+    (items-step k (itemsOf buffer) (done b) tt)
   where
     go : (t u : Bool) (s : Step) → ByStep s
         → answerNumber (cond (not t) (refuses notAttached b) (cond u (refuses bufferTooLong b) (taken b s)) .answer)
@@ -85,15 +80,8 @@ submit-number b k buffer =
     go false u s p = refl
     go true true s p = refl
     go true false (done c) p = refl
-    go true false (fails fourPending) p = refl
-    go true false (fails queueFull) p = refl
-    go true false (fails badNodeCount) p = absurd p
-    go true false (fails invalid) p = absurd p
-    go true false (fails notAttached) p = absurd p
-    go true false (fails bufferTooLong) p = absurd p
-    go true false (fails badInjection) p = absurd p
-    go true false (fails roundsUsedUp) p = absurd p
-    go true false (fails roomTooSmall) p = absurd p
+    go true false (fails r) (inl e) = rw e
+    go true false (fails r) (inr e) = rw e
 
 round-number : (b : Bus) (e : Injection) → answerNumber (runRound b e .answer) ≡ firstRow (plainRows b (session.round e))
 unfolding runRound arbitrate plainRows firstRow
@@ -116,7 +104,8 @@ round-number b e = go (wrongInjection b e) (winner b)
     go false nobody = refl
     go false (wins w) = won w (allHaveRoom (owed e w) b) (leb lastRound (b .round))
 
-collect-number : (b : Bus) (k room : ℕ) → answerNumber (collect b k room .answer) ≡ firstRow (plainRows b (session.collection k room))
+collect-number : (b : Bus) (k room : ℕ)
+    → answerNumber (collect b k room .answer) ≡ firstRow (plainRows b (session.collection k room))
 unfolding collect plainRows firstRow
 collect-number b k room = go (attached b k) (ltb room (length (nodeAt b k .queue)))
   where
