@@ -1,13 +1,15 @@
 -- Demand 2: the round trip is codec's; each call is the plain bus's (Calls); a round that is not refused is idle, or carried out and
 -- then does what the laws of plain_bus say of the winner.
 -- Assumes nothing.
-use mathlib.Core.Path.{_≡_, refl, sym, ap, _∙_}
-use Prim.Native.Nat.{ℕ}
+use mathlib.Core.Path.{_≡_, refl, sym, ap, _∙_, subst}
+use Prim.Native.Nat.{ℕ, _<_}
+use mathlib.Core.Logic.{_⊎_}
 use mathlib.Core.Bool.{Bool, true, false, cond, not}
 use lib.Dec.{leb, eqb}
+use lib.ListN.{length}
 use Rattle.operation.proofs.Tests.{false-is-true}
 use Rattle.codec.proofs.Claims.{written-reads, read-writes, reads-through}
-use Rattle.plain_bus.specs.Held.{lastRound}
+use Rattle.plain_bus.specs.Held.{Frame, Bus, lastRound, nodeAt}
 use Rattle.plain_bus.specs.Refusal.{invalid, badInjection, queueFull, roundsUsedUp}
 use Rattle.plain_bus.specs.Order.{Entry, Winner, nobody, wins}
 use Rattle.plain_bus.specs.Round.{Injection, isErrored, winnerId}
@@ -27,9 +29,10 @@ use Rattle.bus_model.proofs.Validity.{valid-good}
 use Rattle.bus_model.proofs.Session.{Follows}
 use Rattle.bus_model.proofs.Round.{round-refines}
 use Rattle.bus.specs.Left.{leaves, injectionFrom}
-use Rattle.claims.specs.Demands.{Call, leftBy, Passes, ByRules, Round, idles, takes, Demand2}
+use Rattle.claims.specs.Demands.{Call, leftBy, memoryOf, plainCall, Passes, ByRules, Round, idles, takes, Among, Demand2}
 use Rattle.claims.proofs.Answers.{left-memory, left-number, done-number}
 use Rattle.claims.proofs.Calls.{same-answer, follows}
+use Rattle.claims.proofs.Pending.{call-known}
 
 -- ---- each call
 
@@ -108,6 +111,13 @@ module _ (m : Memory) (e : Injection) (v : Valid (view m)) where
         waiting = losers-wait (view m) e w;
       }))
 
+-- what is pending after a call
+still-known : (m : Memory) (c : Call) → Passes m → (j : ℕ) → j < length (view m .nodes) → (f : Frame)
+    → Among f (nodeAt (view (memoryOf (leftBy m c))) j .pending)
+    → Among f (nodeAt (view m) j .pending) ⊎ (f .accepted ≡ view m .round)
+still-known m c p j h f a =
+    call-known (view m) (plainCall c) j h f (subst (λ (b : Bus). Among f (nodeAt b j .pending)) (by-rules m c p .bus) a)
+
 pub demand2 : Demand2
 unfolding leftBy session.call
 demand2 = record {
@@ -119,4 +129,5 @@ demand2 = record {
       let e = injectionFrom present code detector in
       round-is m e (valid-good m (p .typed) (p .valid) .valid) (came (view m) (session.round e))
       (round-refines m e (p .typed) (p .valid));
+  accepted = still-known;
 }

@@ -17,7 +17,7 @@ use Rattle.decoder.specs.Stream.{itemsOf}
 use Rattle.encoder.specs.Writing as encoder
 use Rattle.codec.specs.Claims.{WrittenReads, ReadWrites, ReadsThrough}
 use Rattle.slots.specs.declared.Slot.{Slot}
-use Rattle.plain_bus.specs.Held.{Bus, lastRound, discards, attached, nodeAt, allHaveRoom}
+use Rattle.plain_bus.specs.Held.{Frame, Bus, lastRound, discards, attached, nodeAt, allHaveRoom}
 use Rattle.plain_bus.specs.Refusal.{numberOf}
 use Rattle.plain_bus.specs.Submit.{Step, done, fails, takeItems}
 use Rattle.plain_bus.specs.Order.{Entry, goesBefore, Pending, Winner, nobody, wins, winner}
@@ -205,6 +205,11 @@ pub data Round (m : Memory) (e : Injection) (l : Left) : Type 0 where
   idles : ((y : Entry) → Pending (view m) y → ⊥) → l ≡ leaves (replies plain.idle m) → Round m e l
   takes : (w : Entry) → Takes e w (l .answer) (view m) (view (memoryOf l)) → Round m e l
 
+-- one of some frames
+abbrev pub Among : Frame → List Frame → Type 0
+Among f [] = ⊥
+Among f (g ∷ fs) = (f ≡ g) ⊎ Among f fs
+
 pub record Demand2 : Type 0 where
   -- what is written reads back the same; what reads well writes back to the same bytes; reading goes through to the end
   pub writtenReads : WrittenReads
@@ -215,6 +220,10 @@ pub record Demand2 : Type 0 where
   pub round : (m : Memory) (present code detector : ℕ) → Passes m
       → let l = leftBy m (arbitrates present code detector) in
       l .answer .number ≡ 0 → Round m (injectionFrom present code detector) l
+  -- no acceptance round is set anew: what is pending after a call was pending before it, as it is, or is accepted now
+  pub accepted : (m : Memory) (c : Call) → Passes m → (j : ℕ) → j < length (view m .nodes) → (f : Frame)
+      → Among f (nodeAt (view (memoryOf (leftBy m c))) j .pending)
+      → Among f (nodeAt (view m) j .pending) ⊎ (f .accepted ≡ view m .round)
 
 -- ---- demand 3: the registers
 
