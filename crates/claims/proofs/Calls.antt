@@ -15,7 +15,7 @@ use Rattle.bus_model.specs.Calls.{collectIn}
 use Rattle.bus_model.specs.Refines.{Refines}
 use Rattle.bus_model.specs.Session.{callIn, ByteCall}
 use Rattle.bus_model.proofs.Session.{Follows, call-refines}
-use Rattle.bus.specs.Left.{injectionFrom}
+use Rattle.arbitration.specs.Injections.{injectionFrom}
 use Rattle.claims.specs.Demands.{Call, submits, arbitrates, collects, leftBy, givenBy, memoryOf, plainCall, SameAnswer}
 use Rattle.claims.proofs.Answers.{left-memory, left-call, left-number, left-answer, front-given}
 

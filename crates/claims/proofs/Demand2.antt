@@ -28,7 +28,8 @@ use Rattle.bus_model.specs.Refines.{Refines}
 use Rattle.bus_model.proofs.Validity.{valid-good}
 use Rattle.bus_model.proofs.Session.{Follows}
 use Rattle.bus_model.proofs.Round.{round-refines}
-use Rattle.bus.specs.Left.{leaves, injectionFrom}
+use Rattle.arbitration.specs.Injections.{injectionFrom}
+use Rattle.bus.specs.Left.{leaves}
 use Rattle.claims.specs.Demands.{Call, leftBy, memoryOf, plainCall, Passes, ByRules, Round, idles, takes, Among, Demand2}
 use Rattle.claims.proofs.Answers.{left-memory, left-number, done-number}
 use Rattle.claims.proofs.Calls.{same-answer, follows}

@@ -21,7 +21,8 @@ use Rattle.bus_model.specs.Calls.{wrongMemory, replies, refusing, lentWell, noS
 use Rattle.bus_model.proofs.Buses.{view-length}
 use Rattle.bus_model.proofs.Start.{start-refines}
 use Rattle.bus_model.proofs.Session.{Follows}
-use Rattle.bus.specs.Left.{leaves, injectionFrom}
+use Rattle.arbitration.specs.Injections.{injectionFrom}
+use Rattle.bus.specs.Left.{leaves}
 use Rattle.claims.specs.Demands.{Call, submits, arbitrates, collects, leftBy, plainCall, followUp, World, opening, after, run, Claim, Demand3}
 use Rattle.claims.proofs.Answers.{left-state, left-memory, done-number}
 use Rattle.claims.proofs.Calls.{same-number, given-same, same-answer, follows}

@@ -34,7 +34,8 @@ use Rattle.bus_model.specs.Calls.{answers, replies, lentWell, startIn, submitIn
 use Rattle.bus_model.specs.Refines.{Typed}
 use Rattle.outcome.specs.Outcome.{outcomeIs, refusalRow, answerOf}
 use Rattle.outcome.specs.declared.Answer.{Answer}
-use Rattle.bus.specs.Left.{Left, left, leaves, injectionFrom}
+use Rattle.arbitration.specs.Injections.{injectionFrom}
+use Rattle.bus.specs.Left.{Left, left, leaves}
 use Rattle.open_frames.specs.Kept.{openIn, flat, answered}
 use Rattle.open_frames.specs.declared.Register.{Register}
 use Rattle.open_frames.specs.declared.RegisterAnswer.{RegisterAnswer}
