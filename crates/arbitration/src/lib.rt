@@ -5,21 +5,19 @@ ghost use Prim.Native.Nat.{_+_, _-_, _*_, _≤_, _<_};
 ghost use lib.ListN.{length};
 ghost use Rattle.operation.specs.Format.{dataLength, lengthOf, encode};
 ghost use Rattle.operation.specs.Rules.{oneOf, errorCodes, legal};
-ghost use Rattle.buffers.specs.Parts.{part, over};
+ghost use Rattle.buffers.specs.Parts.{over};
 ghost use Rattle.slots.specs.Slots.{contentOf, heldIn};
-ghost use Rattle.plain_bus.specs.Order.{rank};
-ghost use Rattle.bus_state.specs.Memory.{nodeState, payloadBytes, queueBytes};
-ghost use Rattle.bus_state.specs.Valid.{validState};
-ghost use Rattle.arbitration.specs.Injections.{injectionOf, injectionFrom, hasLegalCode, isWrong};
-ghost use Rattle.arbitration.specs.Winner.{heldAt, before, better, bestOf, bestIn};
-ghost use Rattle.arbitration.specs.Owed.{Writable, Frames, PendingAt, isOff, discards, discarded, own, losers, toldCount, stayCount, flagAt, newsTo, noticeOf, noticesBut, newsLength, owedTo, owedLength, roomFrom};
-ghost use Rattle.arbitration.specs.After.{entryAfter, stateAfter, queuesAfter, source, blockWithout, payloadWithout};
-ghost use Rattle.plain_bus.specs.Order.{wins};
+ghost use Rattle.plain_bus.specs.Order.{rank, wins};
 ghost use Rattle.plain_bus.specs.Round.{isErrored};
-ghost use Rattle.bus_state.specs.Memory.{held};
+ghost use Rattle.bus_state.specs.Memory.{nodeState, held, payloadBytes, queueBytes};
+ghost use Rattle.bus_state.specs.Valid.{validState};
 ghost use Rattle.bus_model.specs.Round.{pendingAt};
 ghost use Rattle.bus_model.specs.Calls.{arbitrateIn, rounded};
 ghost use Rattle.outcome.specs.Outcome.{endedBy, ended};
+ghost use Rattle.arbitration.specs.Injections.{injectionOf, injectionFrom, hasLegalCode, isWrong};
+ghost use Rattle.arbitration.specs.Winner.{heldAt, before, better, bestOf, bestIn};
+ghost use Rattle.arbitration.specs.Owed.{Writable, Frames, PendingAt, isOff, discards, discarded, own, toldCount, stayCount, flagAt, newsTo, noticeOf, noticesBut, owedTo, newsLength, owedLength, roomFrom};
+ghost use Rattle.arbitration.specs.After.{entryAfter, stateAfter, queuesAfter, source, blockWithout, payloadWithout};
 ghost use Rattle.arbitration.specs.Round.{carriedOut};
 use bus_state::NodeState;
 use bus_state::State;
@@ -302,10 +300,10 @@ fn has_room(s: State, e: Injection, owner: usize, size: usize) -> bool
     requires { ⌜ (s .count ≤ 8) × (1 ≤ nodeState s owner .pending) × (size ≤ 2070) ⌝ }
     ensures { λ r. ⌜ r ≡ roomFrom e (s .nodes) owner size 0 (s .count) ⌝ }
 {
-    let count = s.count as usize;
+    let attached = s.count as usize;
     let nodes = s.nodes;
     let mut j = 0;
-    while j < count {
+    while j < attached {
         let d = nodes[j];
         if 4096 < d.fill as usize + owed_length(d, j == owner, e, size) {
             return false;

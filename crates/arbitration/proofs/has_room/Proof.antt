@@ -19,8 +19,8 @@ Inv-loop e owner size count nodes j₀ j = (j ≤ count) × (count ≤ 8) × (ro
 abbrev μ-loop : tie.MeasureT-loop
 μ-loop e owner size count nodes j₀ j = count - j
 
-cast-count : tie.Need-cast-count Inv-loop μ-loop
-cast-count c = search needs
+cast-attached : tie.Need-cast-attached Inv-loop μ-loop
+cast-attached c = search needs
 
 loop-holds : tie.Need-loop-holds Inv-loop μ-loop
 loop-holds c =
@@ -77,5 +77,5 @@ returns-2 c =
 pub has-room-spec : {M : Type 1} → statement M
 has-room-spec =
     tie.close
-    (tie.spec Inv-loop μ-loop cast-count loop-holds mul-d array-copy-out-d cast-if1 owed-length-requires add-if1
+    (tie.spec Inv-loop μ-loop cast-attached loop-holds mul-d array-copy-out-d cast-if1 owed-length-requires add-if1
     returns add-j loop-less loop-again returns-2)
