@@ -1,20 +1,16 @@
 -- What a node is owed by its entry and the slots is what the plain bus owes the view of it.
 -- Assumes nothing.
-use mathlib.Core.Path.{_≡_, refl, sym, ap, _∙_}
-use mathlib.Core.Bool.{Bool, true, false, cond, _&&_}
-use mathlib.Core.List.{List, [], _++_}
-use Prim.Native.Nat.{ℕ, zero, suc, _+_, _-_, _*_, _≤_, _<_}
+use mathlib.Core.Path.{_≡_, refl, _∙_}
+use mathlib.Core.Bool.{Bool, true, false, cond}
+use mathlib.Core.List.{List, []}
+use Prim.Native.Nat.{ℕ, zero, suc, _+_, _*_, _≤_, _<_}
 use native.Mathlib.Omega.{arith}
-use native.Mathlib.Nat.{add-zero}
-use lib.Dec.{leb, eqb}
+use lib.Dec.{eqb}
 use lib.ListN.{length}
 use borrow.Author.Tests.{eqb-true, eqb-false, eq-eqb, ne-eqb}
-use Rattle.operation.specs.Format.{dataLength, lengthOf, encode}
-use Rattle.operation.specs.Kinds.{idOf}
-use Rattle.operation.specs.declared.Operation.the-variants.{ArbitrationLost}
+use Rattle.operation.specs.Format.{dataLength, lengthOf}
 use Rattle.slots.specs.declared.Slot.{Slot}
 use Rattle.plain_bus.specs.Held as plain
-use Rattle.plain_bus.specs.Order.{Entry}
 use Rattle.plain_bus.specs.Round.{newsFor, without, lostNotices, drops, told, owed}
 use Rattle.plain_bus.specs.Round as plainRound
 use Rattle.buffers.proofs.Offsets.{length-part}
@@ -32,8 +28,8 @@ use Rattle.arbitration.specs.declared.Injection.{Injection}
 use Rattle.arbitration.specs.declared.Injection.the-variants.{NoError, Injected}
 use Rattle.arbitration.specs.Injections.{injectionOf, hasLegalCode}
 use Rattle.arbitration.specs.Winner.{heldAt}
-use Rattle.arbitration.specs.Owed.{PendingAt, isOff, discards, discarded, newsTo, noticeOf, noticesBut, owedTo, owedLength, roomFrom}
-use Rattle.arbitration.proofs.Sound.{SoundNode, count-few, node-sound, sound-frames}
+use Rattle.arbitration.specs.Owed.{PendingAt, isOff, discards, discarded, newsTo, noticesBut, owedTo, owedLength, roomFrom}
+use Rattle.arbitration.proofs.Sound.{count-few, node-sound, sound-frames}
 use Rattle.arbitration.proofs.Lengths.{owed-length-is}
 
 -- ---- the notices

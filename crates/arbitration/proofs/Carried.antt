@@ -1,17 +1,17 @@
 -- The memory after a round, part by part: the entries and the queues node by node, the slots and the payload without the winner.
 -- The model removes the winner at its owner's turn; what a node is owed is the same before and after other nodes' turns.
 -- Assumes nothing.
-use mathlib.Core.Path.{_≡_, refl, sym, ap, _∙_, subst}
+use mathlib.Core.Path.{_≡_, refl, ap, _∙_}
 use mathlib.Core.Bool.{Bool, true, false, cond}
 use mathlib.Core.List.{List}
 use Prim.Native.Nat.{ℕ, zero, suc, _+_, _-_, _*_, _≤_, _<_}
 use native.Mathlib.Omega.{arith}
 use native.Mathlib.Nat.{sub-zero}
 use lib.Dec.{eqb}
-use lib.ListN.{length, getD, set}
+use lib.ListN.{length}
 use lib.Seq.{set-getD, set-set}
 use borrow.Author.Tests.{eqb-true, eqb-false, ne-eqb}
-use Rattle.operation.specs.Format.{dataLength, lengthOf}
+use Rattle.operation.specs.Format.{lengthOf}
 use Rattle.buffers.specs.Parts.{over}
 use Rattle.slots.specs.Slots.{setBlock}
 use Rattle.slots.specs.declared.Slot.{Slot}
@@ -23,8 +23,8 @@ use Rattle.bus_state.specs.Entries.{withEntry, entryFill, entryPending}
 use Rattle.bus_state.specs.Valid.{validState}
 use Rattle.bus_state.specs.declared.State.{State}
 use Rattle.bus_state.specs.declared.NodeState.{NodeState}
-use Rattle.bus_model.specs.Primitives.{entryAt, withQueues, setEntry, setRound, append, dropFrames, moveDown, removeFrame, inTurn}
-use Rattle.bus_model.specs.Round.{pendingAt, discardsAt, withoutWinner, owedAt, withoutLosers, settleAt, afterRoundIn}
+use Rattle.bus_model.specs.Primitives.{entryAt, setEntry, setRound, append, dropFrames, moveDown, removeFrame, inTurn}
+use Rattle.bus_model.specs.Round.{pendingAt, withoutWinner, owedAt, withoutLosers, settleAt, afterRoundIn}
 use Rattle.bus_model.specs.Refines.{Sized}
 use Rattle.bus_model.proofs.Writes.{Same, same-refl, same-trans, entry-own}
 use Rattle.bus_model.proofs.Views.{Fits, same-fits, same-view}
@@ -32,8 +32,8 @@ use Rattle.bus_model.proofs.Touched.{Touched, same-tidy}
 use Rattle.bus_model.proofs.Settle.{owed-view, settle-touched}
 use Rattle.arbitration.specs.declared.Injection.{Injection}
 use Rattle.arbitration.specs.Injections.{injectionOf, hasLegalCode}
-use Rattle.arbitration.specs.Winner.{heldAt, entryOf}
-use Rattle.arbitration.specs.Owed.{PendingAt, discards, own, stayCount, owedTo, owedLength, roomFrom}
+use Rattle.arbitration.specs.Winner.{heldAt}
+use Rattle.arbitration.specs.Owed.{PendingAt, discards, own, stayCount, owedTo, roomFrom}
 use Rattle.arbitration.specs.After.{entryAfter, entriesAfter, stateAfter, queuesAfter, blockWithout, payloadWithout}
 use Rattle.arbitration.proofs.Sound.{node-sound}
 use Rattle.arbitration.proofs.Rooms.{room-at}

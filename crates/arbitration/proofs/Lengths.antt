@@ -1,19 +1,17 @@
 -- The number of bytes that a node is owed.
 -- Assumes nothing.
-use mathlib.Core.Path.{_≡_, refl, sym, ap, _∙_}
-use mathlib.Core.List.{List, [], _++_}
+use mathlib.Core.Path.{_≡_, refl, _∙_}
+use mathlib.Core.List.{List, []}
 use mathlib.Core.Bool.{Bool, true, false, cond}
 use Prim.Native.Nat.{ℕ, zero, suc, _+_, _-_, _*_, _≤_, _<_}
 use native.Mathlib.Omega.{arith}
-use native.Mathlib.Nat.{add-zero}
 use lib.Dec.{eqb}
 use borrow.Author.Tests.{eqb-true, eqb-false, eq-eqb, ne-eqb}
 use lib.ListN.{length, length-append}
-use Rattle.operation.specs.Format.{headLength, dataLength, lengthOf, encode}
+use Rattle.operation.specs.Format.{dataLength, lengthOf, encode}
 use Rattle.operation.specs.Kinds.{idOf}
-use Rattle.operation.specs.Rules.{oneOf, errorCodes}
 use Rattle.operation.specs.declared.Operation.{Operation}
-use Rattle.operation.specs.declared.Operation.the-variants.{Confirm, ArbitrationLost, BusError}
+use Rattle.operation.specs.declared.Operation.the-variants.{Confirm, ArbitrationLost}
 use Rattle.operation.proofs.Sizes.{encode-length}
 use Rattle.slots.specs.declared.Slot.{Slot}
 use Rattle.bus_state.specs.declared.NodeState.{NodeState}
@@ -21,7 +19,7 @@ use Rattle.arbitration.specs.declared.Injection.{Injection}
 use Rattle.arbitration.specs.declared.Injection.the-variants.{NoError, Injected}
 use Rattle.arbitration.specs.Injections.{hasLegalCode}
 use Rattle.arbitration.specs.Winner.{heldAt}
-use Rattle.arbitration.specs.Owed.{Writable, isOff, toldCount, owedLength, discards, discarded, own, flagAt, newsTo, noticeOf, noticesBut, owedTo, newsLength, Frames}
+use Rattle.arbitration.specs.Owed.{Writable, isOff, toldCount, owedLength, discards, discarded, own, newsTo, noticesBut, owedTo, newsLength, Frames}
 use Rattle.arbitration.proofs.Told.{confirm-length, lost-length, error-length}
 
 pub news-short : (e : Injection) (mine off : Bool) (size : ℕ) → size ≤ 2_070 → newsLength e mine off size ≤ 2_070

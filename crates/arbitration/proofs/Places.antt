@@ -1,9 +1,8 @@
 -- The scan of the slots finds the place of the model's winner, and the winner is the pending frame at that place.
 -- Assumes nothing.
-use mathlib.Core.Path.{_≡_, refl, sym, ap, _∙_}
+use mathlib.Core.Path.{_≡_, refl, ap, _∙_}
 use mathlib.Core.Bool.{Bool, true, false, cond}
-use mathlib.Core.List.{List}
-use Prim.Native.Nat.{ℕ, zero, suc, _+_, _-_, _*_, _≤_, _<_}
+use Prim.Native.Nat.{ℕ, zero, suc, _+_, _≤_, _<_}
 use native.Mathlib.Omega.{arith}
 use Rattle.plain_bus.specs.Order as plain
 use Rattle.plain_bus.specs.Order.{Entry, nobody, wins, rankOf, goesBefore}

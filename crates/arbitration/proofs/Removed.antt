@@ -2,17 +2,15 @@
 -- Assumes nothing.
 use mathlib.Core.Path.{_≡_, refl, sym, ap, _∙_}
 use mathlib.Core.Bool.{Bool, true, false, cond, _&&_}
-use mathlib.Core.List.{List, [], _∷_}
+use mathlib.Core.List.{List}
 use Prim.Native.Nat.{ℕ, zero, suc, _+_, _-_, _*_, _≤_, _<_}
 use native.Mathlib.Omega.{arith}
 use native.Mathlib.Nat.{add-zero}
-use native.Mathlib.Numerals.{add-one}
 use lib.Dec.{leb, ltb}
 use lib.ListN.{length, getD, set, length-set}
 use lib.Seq.{getD-set-same, getD-set-other, ext-getD}
 use borrow.Author.Tests.{leb-true, leb-false, ltb-true, ltb-false}
 use Rattle.operation.specs.Format.{dataLength}
-use Rattle.operation.proofs.Tests.{both}
 use Rattle.buffers.specs.Parts.{part, over}
 use Rattle.slots.specs.Slots.{freeSlot, contentOf, heldIn, setBlock}
 use Rattle.slots.specs.declared.Slot.{Slot}
@@ -122,9 +120,6 @@ module _ (a : List Slot) (at position last : ℕ) (h : at + 4 ≤ length a) (f :
   unfolding moved
   each r = go (leb at r) refl (ltb r (at + 4)) refl
     where
-      b : List Slot
-      b = blockWithout a at position last
-
       outside : ((q : ℕ) → q < 4 → r ≡ at + q → ⊥)
           → getD (setBlock a at (blockWithout a at position last)) r freeSlot
           ≡ getD (slotsDown a (at + position) (last - position)) r freeSlot

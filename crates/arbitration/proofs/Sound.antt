@@ -1,6 +1,6 @@
 -- What a valid state says of each attached node: its fill, and its frames, of which everything can be written.
 -- Assumes nothing.
-use mathlib.Core.Path.{_≡_, refl, sym, ap, _∙_}
+use mathlib.Core.Path.{_≡_, refl}
 use mathlib.Core.Bool.{Bool, true, false, cond, _&&_}
 use mathlib.Core.List.{List, []}
 use Prim.Native.Nat.{ℕ, zero, suc, _+_, _-_, _*_, _≤_, _<_}
@@ -9,10 +9,7 @@ use native.Mathlib.Nat.{add-zero, zero-add}
 use lib.Dec.{leb, eqb}
 use lib.ListN.{getD}
 use borrow.Author.Tests.{leb-true, eqb-true}
-use Rattle.operation.specs.Format.{dataLength}
-use Rattle.operation.specs.Kinds.{idOf}
 use Rattle.operation.specs.Rules.{maxId, rules, legal}
-use Rattle.operation.specs.declared.Operation.{Operation}
 use Rattle.operation.specs.declared.Operation.the-variants.{CanTransmit, FdTransmit, XlTransmit}
 use Rattle.operation.proofs.Tests.{false-is-true, both, passed}
 use Rattle.slots.specs.Slots.{freeSlot, contentOf, heldIn, legalContent}
@@ -23,7 +20,7 @@ use Rattle.bus_state.specs.Memory.{nodeState, held}
 use Rattle.bus_state.specs.Valid.{validSlot, validSlots, validNodes, validState}
 use Rattle.bus_state.specs.declared.State.{State}
 use Rattle.bus_model.proofs.Lawful.{max-id, fd-short}
-use Rattle.bus_model.proofs.Validity.{SlotIs, slot-is, NodeIs, node-is, nodes-valid-at}
+use Rattle.bus_model.proofs.Validity.{slot-is, node-is, nodes-valid-at}
 use Rattle.arbitration.specs.Winner.{heldAt}
 use Rattle.arbitration.specs.Owed.{Writable, Frames, PendingAt, own}
 

@@ -7,7 +7,6 @@ use borrow.Author.Tests.{le-ltb, lt-ltb}
 use lib.Dec.{ltb, eqb}
 use native.Mathlib.Omega.{arith}
 use Rattle.operation.specs.Rules.{oneOf, errorCodes}
-use Rattle.operation.proofs.Tests.{false-is-true}
 use Rattle.plain_bus.specs.Held.{busOff}
 use Rattle.bus_state.specs.Memory.{Memory, nodeState}
 use Rattle.bus_state.specs.declared.State.{State}

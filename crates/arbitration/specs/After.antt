@@ -1,16 +1,16 @@
 -- What a round that is carried out leaves: the entries, the queues, and, once these are written, the slots and the payload without
 -- the winner (01, "One round").
 -- Assumes nothing.
-use Prim.Native.Nat.{ℕ, zero, suc, _+_, _-_, _*_}
+use Prim.Native.Nat.{ℕ, zero, suc, _+_, _*_}
 use mathlib.Core.List.{List, [], _∷_}
 use mathlib.Core.Bool.{Bool, cond, _&&_}
 use lib.Dec.{leb, ltb, eqb}
-use lib.ListN.{getD, set, length}
-use Rattle.operation.specs.Format.{dataLength, lengthOf}
+use lib.ListN.{getD, set}
+use Rattle.operation.specs.Format.{dataLength}
 use Rattle.buffers.specs.Parts.{part, over}
 use Rattle.slots.specs.Slots.{freeSlot}
 use Rattle.slots.specs.declared.Slot.{Slot}
-use Rattle.bus_state.specs.Memory.{slotsPerNode, bytesPerSlot, bytesPerQueue, nodeState}
+use Rattle.bus_state.specs.Memory.{bytesPerSlot, bytesPerQueue}
 use Rattle.bus_state.specs.Entries.{entryFill, entryPending}
 use Rattle.bus_state.specs.declared.State.{State}
 use Rattle.bus_state.specs.declared.NodeState.{NodeState}

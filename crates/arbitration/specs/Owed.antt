@@ -5,7 +5,6 @@ use mathlib.Core.Path.{_≡_}
 use mathlib.Core.List.{List, [], _++_}
 use mathlib.Core.Bool.{Bool, true, cond, _&&_}
 use lib.Dec.{leb, eqb}
-use lib.ListN.{getD}
 use Rattle.operation.specs.Format.{dataLength, encode}
 use Rattle.operation.specs.Kinds.{idOf}
 use Rattle.operation.specs.Rules.{legal, maxExtendedId}

@@ -1,19 +1,19 @@
 -- By the room, then by the round number.
-use Prim.Native.Nat.{ℕ, _+_, _-_, _*_, _≤_}
+use Prim.Native.Nat.{_+_, _*_}
 use Rattle.outcome.proofs.Endings.{unchanged-ends}
 use Rattle.arbitration.proofs.Ends.{full-ended, used-up-ended, carried-ended}
 use Rattle.arbitration.proofs.Sound.{count-few, node-sound, place-small}
 use Rattle.arbitration.specs.Winner.{heldAt}
 use Rattle.bus_model.specs.Refines.{Sized}
-use Rattle.bus_state.specs.Memory.{nodeState, held}
+use Rattle.bus_state.specs.Memory.{held}
 use Rattle.operation.proofs.Sizes.{head-small}
-use Rattle.operation.specs.Format.{dataLength, lengthOf}
+use Rattle.operation.specs.Format.{lengthOf}
 use Rattle.outcome.specs.declared.Outcome.the-variants.{QueueFull, RoundsUsedUp}
 use borrow.Author.Needs.{needs}
 use borrow.Author.Tests.{not-true, not-false}
 use denote.Ref.{now}
-use lib.ListN.{length, length-map}
-use mathlib.Core.Path.{_≡_, refl, sym, ap, _∙_}
+use lib.ListN.{length-map}
+use mathlib.Core.Path.{_≡_, sym, _∙_}
 use native.Mathlib.Omega.{arith}
 use Rattle.arbitration.proofs.arbitrate.Statement.{statement}
 use Rattle.arbitration.proofs.arbitrate.Tie as tie

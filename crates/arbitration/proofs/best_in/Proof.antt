@@ -1,11 +1,11 @@
 -- The loop's invariant: the nodes from j on give the same as all attached ones.
-use Prim.Native.Nat.{ℕ, suc, _≤_, _-_}
+use Prim.Native.Nat.{_≤_, _-_}
 use Rattle.arbitration.proofs.Scan.{nodes-next, nodes-end}
 use Rattle.arbitration.proofs.Sound.{count-few, node-sound}
 use Rattle.arbitration.specs.Winner.{bestFrom, bestIn}
 use Rattle.arbitration.specs.declared.Winner.the-variants.{Nobody}
 use borrow.Author.Needs.{needs}
-use mathlib.Core.Path.{_≡_, refl, sym, ap, _∙_}
+use mathlib.Core.Path.{_≡_, sym, _∙_}
 use native.Mathlib.Numerals.{add-one}
 use native.Mathlib.Omega.{arith}
 use Rattle.arbitration.proofs.best_in.Statement.{statement}

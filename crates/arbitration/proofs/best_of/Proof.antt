@@ -1,10 +1,9 @@
 -- The loop's invariant: the frames from q on give the same as all of them.
-use Prim.Native.Nat.{ℕ, suc, _≤_, _-_}
+use Prim.Native.Nat.{_≤_, _-_}
 use Rattle.arbitration.proofs.Scan.{frames-next, frames-end}
 use Rattle.arbitration.specs.Winner.{bestOf}
 use borrow.Author.Needs.{needs}
-use mathlib.Core.Path.{_≡_, refl, sym, ap, _∙_}
-use native.Mathlib.Nat.{sub-zero}
+use mathlib.Core.Path.{_≡_, sym, _∙_}
 use native.Mathlib.Numerals.{add-one}
 use native.Mathlib.Omega.{arith}
 use Rattle.arbitration.proofs.best_of.Statement.{statement}

@@ -1,5 +1,5 @@
 -- The queues are written, then the winner's slot and data are closed up.
-use Prim.Native.Nat.{ℕ, _+_, _-_, _*_, _≤_}
+use Prim.Native.Nat.{_+_, _-_, _*_}
 use Rattle.arbitration.proofs.Agrees.{data-whole}
 use Rattle.arbitration.proofs.Ends.{done-ended}
 use Rattle.arbitration.proofs.Sound.{node-sound, sound-frames, place-small}
@@ -10,9 +10,8 @@ use Rattle.bus_state.specs.Memory.{nodeState, held}
 use Rattle.operation.specs.Format.{dataLength}
 use borrow.Author.Needs.{needs}
 use denote.Ref.{now}
-use lib.ListN.{length, length-map, take, drop}
-use mathlib.Core.List.{List}
-use mathlib.Core.Path.{_≡_, refl, sym, ap, _∙_}
+use lib.ListN.{length-map}
+use mathlib.Core.Path.{_≡_, sym, ap, _∙_}
 use native.Mathlib.Nat.{add-sub-cancel-left}
 use native.Mathlib.Omega.{arith}
 use Rattle.arbitration.proofs.carry_out.Statement.{statement}

@@ -1,7 +1,6 @@
 -- The fill grows by what is owed, and the losers stay or go.
 use Rattle.arbitration.specs.After.{entryAfter}
 use borrow.Author.Needs.{needs}
-use mathlib.Core.Path.{sym, _∙_}
 use native.Mathlib.Omega.{arith}
 use Rattle.arbitration.proofs.entry_after.Statement.{statement}
 use Rattle.arbitration.proofs.entry_after.Tie as tie

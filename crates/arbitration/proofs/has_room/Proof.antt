@@ -1,13 +1,13 @@
 -- The loop's invariant: the nodes from j on decide as all attached ones do.
-use Prim.Native.Nat.{ℕ, suc, _≤_, _-_}
+use Prim.Native.Nat.{_≤_, _-_}
 use Rattle.arbitration.proofs.Lengths.{owed-short}
 use Rattle.arbitration.proofs.Rooms.{room-bad, room-good, room-end}
 use Rattle.arbitration.proofs.Sound.{own-pending}
-use Rattle.arbitration.specs.Owed.{owedLength, roomFrom}
+use Rattle.arbitration.specs.Owed.{roomFrom}
 use Rattle.bus_state.specs.Memory.{nodeState}
 use borrow.Author.Needs.{needs}
 use lib.Dec.{eqb}
-use mathlib.Core.Path.{_≡_, refl, sym, ap, _∙_}
+use mathlib.Core.Path.{_≡_, sym, _∙_}
 use native.Mathlib.Numerals.{add-one}
 use native.Mathlib.Omega.{arith}
 use Rattle.arbitration.proofs.has_room.Statement.{statement}

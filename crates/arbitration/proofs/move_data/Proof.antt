@@ -1,12 +1,10 @@
 -- The loop's invariant: the data from p on move as all do, and the length is as it was.
-use Prim.Native.Nat.{ℕ, suc, _+_, _*_, _≤_, _-_}
+use Prim.Native.Nat.{_+_, _≤_, _-_}
 use Rattle.arbitration.proofs.Moves.{data-next, data-end, data-length-kept}
 use Rattle.arbitration.specs.After.{payloadWithout}
 use Rattle.arbitration.specs.Winner.{heldAt}
 use Rattle.operation.specs.Format.{dataLength}
-use Rattle.operation.specs.declared.Operation.{Operation}
 use borrow.Author.Needs.{needs}
-use denote.Ref.{now}
 use lib.ListN.{length}
 use mathlib.Core.Path.{_≡_, refl, sym, ap, _∙_}
 use native.Mathlib.Numerals.{add-one}

@@ -1,5 +1,5 @@
 -- By the injection, then by whether the node sends, is Bus-Off, or neither.
-use Prim.Native.Nat.{ℕ, _≤_, _+_}
+use Prim.Native.Nat.{_≤_}
 use Rattle.arbitration.proofs.Bytes.{byte-own, over-none}
 use Rattle.arbitration.proofs.Told.{confirm-lawful, error-lawful, confirm-length, error-length, legal-code, code-small, news-own, news-none, news-other, news-silent, news-error}
 use Rattle.operation.proofs.Sizes.{encode-length}
@@ -8,8 +8,7 @@ use Rattle.slots.specs.Slots.{contentOf, heldIn}
 use borrow.Author.Needs.{needs}
 use denote.Ref.{now}
 use lib.Dec.{eqb}
-use lib.ListN.{length}
-use mathlib.Core.Path.{_≡_, refl, sym, ap, _∙_}
+use mathlib.Core.Path.{refl, sym}
 use native.Mathlib.Omega.{arith}
 use Rattle.arbitration.proofs.put_news.Statement.{statement}
 use Rattle.arbitration.proofs.put_news.Tie as tie

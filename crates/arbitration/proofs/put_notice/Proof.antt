@@ -1,11 +1,11 @@
 -- By whether the frame is the winner.
-use Prim.Native.Nat.{ℕ, _≤_, _+_}
+use Prim.Native.Nat.{_≤_}
 use Rattle.arbitration.proofs.Bytes.{over-none}
 use Rattle.arbitration.proofs.Told.{lost-lawful, lost-length}
 use Rattle.operation.specs.Kinds.{idOf}
 use Rattle.slots.specs.Slots.{contentOf, heldIn}
 use borrow.Author.Needs.{needs}
-use mathlib.Core.Path.{_≡_, refl, sym, ap, _∙_}
+use mathlib.Core.Path.{refl, sym}
 use native.Mathlib.Nat.{add-zero}
 use native.Mathlib.Omega.{arith}
 use Rattle.arbitration.proofs.put_notice.Statement.{statement}

@@ -1,5 +1,5 @@
 -- The loop's invariant: the notices from p on, laid from `to` on, give the same as all of them.
-use Prim.Native.Nat.{ℕ, suc, _+_, _≤_, _-_}
+use Prim.Native.Nat.{suc, _+_, _≤_, _-_}
 use Rattle.arbitration.proofs.Bytes.{over-over, over-none}
 use Rattle.arbitration.proofs.Told.{notices-next, notices-end}
 use Rattle.arbitration.specs.Owed.{noticeOf, noticesBut}
@@ -7,7 +7,6 @@ use Rattle.arbitration.specs.Winner.{heldAt}
 use Rattle.buffers.proofs.Offsets.{length-over}
 use Rattle.buffers.specs.Parts.{over}
 use borrow.Author.Needs.{needs}
-use denote.Ref.{now}
 use lib.Dec.{eqb}
 use lib.ListN.{length, length-append}
 use mathlib.Core.Path.{_≡_, refl, sym, ap, _∙_}

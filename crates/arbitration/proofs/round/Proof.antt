@@ -1,5 +1,4 @@
 -- By the injection, then by the winner.
-use Prim.Native.Nat.{ℕ, _+_, _-_, _*_, _≤_}
 use Rattle.outcome.proofs.Endings.{unchanged-ends}
 use Rattle.arbitration.proofs.Ends.{wrong-ended, idle-ended, won-ended}
 use Rattle.arbitration.proofs.Places.{first-wins}
@@ -9,7 +8,7 @@ use Rattle.bus_state.specs.Memory.{held}
 use Rattle.outcome.specs.declared.Outcome.the-variants.{BadInjection, Idle}
 use borrow.Author.Needs.{needs}
 use denote.Ref.{now}
-use mathlib.Core.Path.{_≡_, refl, sym, ap, _∙_}
+use mathlib.Core.Path.{sym, _∙_}
 use native.Mathlib.Omega.{arith}
 use Rattle.arbitration.proofs.round.Statement.{statement}
 use Rattle.arbitration.proofs.round.Tie as tie

@@ -1,5 +1,5 @@
 -- The news at the fill, and the notices behind them.
-use Prim.Native.Nat.{ℕ, _≤_, _+_, _-_, _*_}
+use Prim.Native.Nat.{ℕ, _+_, _*_}
 use Rattle.arbitration.proofs.Bytes.{in-two}
 use Rattle.arbitration.proofs.Lengths.{news-length-is, discarded-few}
 use Rattle.arbitration.specs.Owed.{isOff, discarded, newsTo, noticesBut, owedTo}
@@ -7,10 +7,8 @@ use Rattle.arbitration.specs.Winner.{heldAt}
 use Rattle.buffers.proofs.Offsets.{length-over}
 use borrow.Author.Needs.{needs}
 use denote.Ref.{now}
-use lib.Dec.{eqb}
 use lib.ListN.{length, length-append}
-use mathlib.Core.List.{List}
-use mathlib.Core.Path.{_≡_, refl, sym, ap, _∙_}
+use mathlib.Core.Path.{_≡_, sym, ap, _∙_}
 use native.Mathlib.Nat.{add-sub-cancel-left}
 use native.Mathlib.Omega.{arith}
 use Rattle.arbitration.proofs.tell.Statement.{statement}

@@ -1,5 +1,5 @@
 -- The loop's invariant: the entries and the queues from j on become what all do, and the queues' length is as it was.
-use Prim.Native.Nat.{ℕ, suc, _+_, _*_, _≤_, _-_}
+use Prim.Native.Nat.{_+_, _*_, _≤_, _-_}
 use Rattle.arbitration.proofs.Lengths.{owed-length-is}
 use Rattle.arbitration.proofs.Rooms.{room-at}
 use Rattle.arbitration.proofs.Settled.{entries-next, entries-end, queues-next, queues-end}
@@ -12,7 +12,6 @@ use Rattle.bus_state.specs.Memory.{nodeState}
 use Rattle.operation.proofs.Sizes.{head-small}
 use borrow.Author.Needs.{needs}
 use denote.Ref.{now}
-use lib.Dec.{eqb}
 use lib.ListN.{length}
 use mathlib.Core.Path.{_≡_, refl, sym, ap, _∙_}
 use native.Mathlib.Numerals.{add-one}
