@@ -103,25 +103,18 @@ fn open_id(register: Register, id: u32) -> Step
 }
 
 // Status Bus-Off closes all.
-fn note_status(register: Register, status: u8) -> Register
+fn note_status(mut register: Register, status: u8) -> Register
     requires { ⌜ register .count ≤ 345 ⌝ }
     ensures noted { λ r. ⌜ openIn r ≡ noteStatus (openIn register) status ⌝ }
     ensures within { λ r. ⌜ r .count ≤ 345 ⌝ }
 {
-    let ids = register.ids;
     if status == operation::BUS_OFF {
-        Register {
-            ids,
-            count: 0,
-            off: 1,
-        }
-    } else {
-        Register {
-            ids,
-            count: register.count,
-            off: 0,
-        }
+        register.count = 0;
+        register.off = 1;
+        return register;
     }
+    register.off = 0;
+    register
 }
 
 // Where the first equal ID is, and count where there is none.
