@@ -1,7 +1,7 @@
 -- Calls as steps of a walk, for the walks of the crates above.
 --     hears        a callee has returned: its result, what it ensures of it, and its relation
 --     gives-up     a `&mut [T]` that is used no more: its list now is its last
---     calls-none, calls-one    a call of a function with no parameter, and with one that is plain
+--     calls-none, calls-one, calls-two     a call of a function with no parameter, and with one or two that are plain
 --     loads        `load` of a `&[Slot]`
 --     loads-mut    `load` of a `&mut [Slot]`, which is lent as a `&[Slot]` for the call and comes back
 --     stores, puts-block       `store` and `put_block`, which use the `&mut [Slot]` up
@@ -85,12 +85,15 @@ abbrev pub ShrSlots : Lft → ℕ → ℕ → GName → List Slot → Fml
 ShrSlots κ b o γ ys = ShrSlice (named 0) κ T.the-row .own (lentAt b o γ ys) (sliceOf b o ys ∷ [])
 
 module _ {M : Type 1} (𝓤 : URA M) (H : Heap 𝓤) (A : Atoms 𝓤) where
-  -- what a function with no parameter, and with one that is plain, asks, and what either answers with
+  -- what a function with no parameter, and with one or two that are plain, asks, and what each answers with
   abbrev pub AskNone : SProp 𝓤
   AskNone = sep 𝓤 (sep 𝓤 (sem 𝓤 H A ftrue) (sem 𝓤 H A ftrue)) (emp 𝓤)
 
   abbrev pub AskOne : (R : RattleType) → R .Denot → Val → SProp 𝓤
   AskOne R x v = sep 𝓤 (sep 𝓤 (sem 𝓤 H A ftrue) (sem 𝓤 H A (fsep (R .own x (v ∷ [])) ftrue))) (emp 𝓤)
+
+  abbrev pub AskTwo : (R : RattleType) → R .Denot → Val → (R′ : RattleType) → R′ .Denot → Val → SProp 𝓤
+  AskTwo R x v R′ x′ v′ = sep 𝓤 (sep 𝓤 (sem 𝓤 H A ftrue) (sem 𝓤 H A (fsep (R .own x (v ∷ [])) (fsep (R′ .own x′ (v′ ∷ [])) ftrue)))) (emp 𝓤)
 
   abbrev pub Answers : (S : RattleType) → (S .Denot → SProp 𝓤) → Val → SProp 𝓤
   Answers S Ens u = H .⇛ (ex 𝓤 (λ (r : S .Denot). sep 𝓤 (sep 𝓤 (sem 𝓤 H A ftrue) (sem 𝓤 H A (S .own r (u ∷ [])))) (Ens r)))
@@ -145,6 +148,17 @@ module _ {M : Type 1} {𝓤 : URA M} {H : Heap 𝓤} {A : Atoms 𝓤} {K : Type 
     where
       asked : ent 𝓤 (sem 𝓤 H A ftrue) (AskOne 𝓤 H A R x v)
       asked = qed W (‵ ftrue ∷ []) ∵ nothing ! $ owned ! R (Is R) mk x (v ∷ []) is $ fjoin ! $ move ! (1 ∷ 0 ∷ []) $ join ! $ frame ! $ done !
+
+  pub calls-two : K → {f : Name} → FmC 𝓤 H (W .laws) C → (R : RattleType) → Makes 𝓤 H A R (Is R) → (x : R .Denot) (v : Val) → Is R x (v ∷ []) → (R′ : RattleType) → Makes 𝓤 H A R′ (Is R′) → (x′ : R′ .Denot) (v′ : Val) → Is R′ x′ (v′ ∷ [])
+      → (S : RattleType) (F : S .Denot → Type 0) (T : Ended) (κs : Lfts (T .signature .lifetimes)) (a : Args (T .signature) κs)
+      → ent 𝓤 (AskTwo 𝓤 H A R x v R′ x′ v′) (C f (v ∷ v′ ∷ []) (Answers 𝓤 H A S (λ r. Said 𝓤 H A T κs a (F r)))) → Opds K W (raw (AskTwo 𝓤 H A R x v R′ x′ v′) ∷ Γ) E xs (v ∷ v′ ∷ [])
+      → ((u : Val) (r : S .Denot) → F r → Is S r (u ∷ []) → Seq K W Γ (lands C Λ E d u rest q)) → Seq K W Γ (runs C Λ E (seq (call f xs d) rest) q)
+  calls-two t fm R mk x v is R′ mk′ x′ v′ is′ S F T κs a known os k =
+      nothing t $ use1 W (raw (AskTwo 𝓤 H A R x v R′ x′ v′)) asked $ calls-from t fm (raw (AskTwo 𝓤 H A R x v R′ x′ v′)) (v ∷ v′ ∷ []) (Answers 𝓤 H A S (λ r. Said 𝓤 H A T κs a (F r))) known os (λ u.
+      hears t tt S (‵ ftrue) F (λ r. said 𝓤 H A T κs a (F r)) u (λ r e is″. drop t $ k u r e is″))
+    where
+      asked : ent 𝓤 (sem 𝓤 H A ftrue) (AskTwo 𝓤 H A R x v R′ x′ v′)
+      asked = qed W (‵ ftrue ∷ []) ∵ nothing ! $ owned ! R′ (Is R′) mk′ x′ (v′ ∷ []) is′ $ fjoin ! $ owned ! R (Is R) mk x (v ∷ []) is $ fjoin ! $ move ! (1 ∷ 0 ∷ []) $ join ! $ frame ! $ done !
 
   module _ (mem : Memory → SProp 𝓤) (run : Routine → Fun 𝓤) {κ : Lft} {p : Share} {b o : ℕ} {γ : GName} (ys : List Slot) where
     pub loads : K → FmC 𝓤 H (W .laws) C → Triple 𝓤 (C #load) (Load 𝓤 H A mem run) → length ys ≡ 32 → Opds K W (raw (Load 𝓤 H A mem run .pre (toLoad 𝓤 H A mem run κ p b o γ ys)) ∷ Γ) E xs (sliceOf b o ys ∷ [])
