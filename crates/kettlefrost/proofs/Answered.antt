@@ -69,11 +69,13 @@ module _ (m : Memory) (h : length (m .slots) ≡ 32 → ⊥) where
 abbrev leftBy : Ended → Left
 leftBy e = left (answerOf (e .outcome) (e .memory .state)) (e .memory .slots) (e .memory .payload) (e .memory .queues)
 
-pub is-left : (e : Ended) (r : Result) → e ≡ ended r → (a : Answer) (l : List Slot) → a ≡ answerOf (e .outcome) (e .memory .state) → l ≡ e .memory .slots → left a l (e .memory .payload) (e .memory .queues) ≡ leaves r
+pub is-left : (e : Ended) (r : Result) → e ≡ ended r → (a : Answer) (l : List Slot) → a ≡ answerOf (e .outcome) (e .memory .state) → l ≡ e .memory .slots
+    → left a l (e .memory .payload) (e .memory .queues) ≡ leaves r
 is-left e r h a l ha hl =
     ap (λ (x : Answer). left x l (e .memory .payload) (e .memory .queues)) ha
     ∙ ap (λ (x : List Slot). left (answerOf (e .outcome) (e .memory .state)) x (e .memory .payload) (e .memory .queues)) hl ∙ ap leftBy h
 
 -- a goal that ends in what two clauses ensure
-pub says-both : {M : Type 1} {𝓤 : URA M} {H : Heap 𝓤} {A : Atoms 𝓤} {K : Type 0} {W : Given 𝓤 H A} {Γ : List (Item 𝓤)} → K → {φ ψ : Type 0} {P : SProp 𝓤} → φ → ψ → Step K W Γ (prop P) Γ (prop (sep 𝓤 P (sep 𝓤 (fact 𝓤 φ) (fact 𝓤 ψ))))
+pub says-both : {M : Type 1} {𝓤 : URA M} {H : Heap 𝓤} {A : Atoms 𝓤} {K : Type 0} {W : Given 𝓤 H A} {Γ : List (Item 𝓤)} → K → {φ ψ : Type 0} {P : SProp 𝓤} → φ → ψ
+    → Step K W Γ (prop P) Γ (prop (sep 𝓤 P (sep 𝓤 (fact 𝓤 φ) (fact 𝓤 ψ))))
 says-both {𝓤 = 𝓤} t {φ} {ψ} {P} x y = step (λ s. record { prf = via 𝓤 (sep 𝓤 (sep 𝓤 P (fact 𝓤 φ)) (fact 𝓤 ψ)) ((says t y $ says t x $ s) .prf) (assoc∗ 𝓤 P (fact 𝓤 φ) (fact 𝓤 ψ)) })

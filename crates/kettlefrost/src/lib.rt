@@ -4,7 +4,7 @@ ghost use lib.ListN.{length};
 ghost use Rattle.decoder.specs.Reading.{readAt};
 ghost use Rattle.bus_state.specs.Memory.{held};
 ghost use Rattle.bus_model.specs.Primitives.{newState};
-ghost use Rattle.bus_model.specs.Calls.{startIn, collectIn, bufferAfter};
+ghost use Rattle.bus_model.specs.Calls.{startIn, submitIn, collectIn, bufferAfter};
 ghost use Rattle.bus.specs.Left.{left, leaves};
 ghost use Rattle.kettlefrost.specs.Flat.{flatRow, flat, named};
 ghost use Rattle.kettlefrost.specs.Calls.{readAnswer, dataAnswer, lengthWritten, answerNamed, writeAnswer, bufferAfterWrite};
@@ -300,6 +300,26 @@ pub extern "C" fn kf_start(slots: &mut [Slot], payload: &[u8], queues: &[u8], co
     let c = bus::start(a, payload, queues, count);
     lent_slots::store(slots, bus::slots_started(c));
     bus::answer_started(c)
+}
+
+#[no_mangle]
+pub extern "C" fn kf_submit(
+    state: State,
+    slots: &mut [Slot],
+    payload: &mut [u8],
+    queues: &mut [u8],
+    node: u32,
+    buffer: &[u8],
+) -> Answer
+    ensures { λ r. ⌜ left r (now (slots .exit)) (now (payload .exit)) (now (queues .exit)) ≡ leaves (submitIn (held state (now (slots .entry)) (now (payload .entry)) (now (queues .entry))) node (now (buffer .entry))) ⌝ }
+{
+    if slots.len() != SLOTS {
+        return bus::wrong_memory(state);
+    }
+    let a = lent_slots::load(slots);
+    let c = bus::submit(state, a, payload, queues, node, buffer);
+    lent_slots::put_block(slots, bus::position_changed(c), bus::block_changed(c));
+    bus::answer_changed(c)
 }
 
 // The queue goes to the front of the caller's buffer.

@@ -63,7 +63,8 @@ module _ {M : Type 1} {𝓤 : URA M} {H : Heap 𝓤} {A : Atoms 𝓤} {K : Type 
       split t $ move t (1 ∷ []) $ use1 W (raw (fact 𝓤 (F r))) (said r) $ heard t (F r) (λ e.
       split t $ move t (1 ∷ []) $ peeks t S (Is S) (shows 𝓤 H A S) r (u ∷ []) (λ is. drop t $ k r e is)))
 
-  pub gives-up : K → Soaks G → (ℓ : Lifetime) (κ : Lft) (R : RattleType) {b o : ℕ} {γ : GName} (ys : List (R .Denot)) (vs : List Val) → Step K W (‵ (finally R γ ys) ∷ Γ) G (‵ (MutSlice ℓ κ R .own (record { ptr = (b, o); name = γ; now = ys }) vs) ∷ Γ) G
+  pub gives-up : K → Soaks G → (ℓ : Lifetime) (κ : Lft) (R : RattleType) {b o : ℕ} {γ : GName} (ys : List (R .Denot)) (vs : List Val)
+      → Step K W (‵ (finally R γ ys) ∷ Γ) G (‵ (MutSlice ℓ κ R .own (record { ptr = (b, o); name = γ; now = ys }) vs) ∷ Γ) G
   gives-up t z ℓ κ R {b} {o} {γ} ys vs = step (λ s.
       fsplit t $ drop t $ fsplit t $ name-done t z $ use1 W (‵ (finally R γ ys)) (res-finally 𝓤 H A W ℓ κ R γ ys) $ move t (1 ∷ []) $ drop t $ s)
 
@@ -128,7 +129,8 @@ module _ {M : Type 1} (𝓤 : URA M) (H : Heap 𝓤) (A : Atoms 𝓤) where
       abbrev pub toPut : ℕ → Val → List Slot → Val → PutBlock .Ghost
       toPut i vi l v = (((κ, tt), (p, tt), tt, (lentAt b o γ ys, (i, (l, tt))), (sliceOf b o ys ∷ [], (vi ∷ [], (v ∷ [], tt)))), tt)
 
-module _ {M : Type 1} {𝓤 : URA M} {H : Heap 𝓤} {A : Atoms 𝓤} {K : Type 0} {W : Given 𝓤 H A} {Γ : List (Item 𝓤)} {E : Env 𝓤 H} {C : Calls 𝓤 H} {Λ : Loops 𝓤 H} {q : Post 𝓤 H} {xs : List Operand} {d : Place} {rest : Body} where
+module _ {M : Type 1} {𝓤 : URA M} {H : Heap 𝓤} {A : Atoms 𝓤} {K : Type 0} {W : Given 𝓤 H A} {Γ : List (Item 𝓤)} {E : Env 𝓤 H} {C : Calls 𝓤 H} {Λ : Loops 𝓤 H} {q : Post 𝓤 H}
+    {xs : List Operand} {d : Place} {rest : Body} where
   pub calls-none : K → {f : Name} → FmC 𝓤 H (W .laws) C → (S : RattleType) (F : S .Denot → Type 0) (T : Ended) (κs : Lfts (T .signature .lifetimes)) (a : Args (T .signature) κs)
       → ent 𝓤 (AskNone 𝓤 H A) (C f [] (Answers 𝓤 H A S (λ r. Said 𝓤 H A T κs a (F r)))) → Opds K W (raw (AskNone 𝓤 H A) ∷ Γ) E xs []
       → ((u : Val) (r : S .Denot) → F r → Is S r (u ∷ []) → Seq K W Γ (lands C Λ E d u rest q)) → Seq K W Γ (runs C Λ E (seq (call f xs d) rest) q)
@@ -139,7 +141,8 @@ module _ {M : Type 1} {𝓤 : URA M} {H : Heap 𝓤} {A : Atoms 𝓤} {K : Type 
       asked : ent 𝓤 (sem 𝓤 H A ftrue) (AskNone 𝓤 H A)
       asked = qed W (‵ ftrue ∷ []) ∵ nothing ! $ join ! $ frame ! $ done !
 
-  pub calls-one : K → {f : Name} → FmC 𝓤 H (W .laws) C → (R : RattleType) → Makes 𝓤 H A R (Is R) → (x : R .Denot) (v : Val) → Is R x (v ∷ []) → (S : RattleType) (F : S .Denot → Type 0) (T : Ended) (κs : Lfts (T .signature .lifetimes)) (a : Args (T .signature) κs)
+  pub calls-one : K → {f : Name} → FmC 𝓤 H (W .laws) C → (R : RattleType) → Makes 𝓤 H A R (Is R) → (x : R .Denot) (v : Val) → Is R x (v ∷ []) → (S : RattleType) (F : S .Denot
+      → Type 0) (T : Ended) (κs : Lfts (T .signature .lifetimes)) (a : Args (T .signature) κs)
       → ent 𝓤 (AskOne 𝓤 H A R x v) (C f (v ∷ []) (Answers 𝓤 H A S (λ r. Said 𝓤 H A T κs a (F r)))) → Opds K W (raw (AskOne 𝓤 H A R x v) ∷ Γ) E xs (v ∷ [])
       → ((u : Val) (r : S .Denot) → F r → Is S r (u ∷ []) → Seq K W Γ (lands C Λ E d u rest q)) → Seq K W Γ (runs C Λ E (seq (call f xs d) rest) q)
   calls-one t fm R mk x v is S F T κs a known os k =
@@ -149,19 +152,24 @@ module _ {M : Type 1} {𝓤 : URA M} {H : Heap 𝓤} {A : Atoms 𝓤} {K : Type 
       asked : ent 𝓤 (sem 𝓤 H A ftrue) (AskOne 𝓤 H A R x v)
       asked = qed W (‵ ftrue ∷ []) ∵ nothing ! $ owned ! R (Is R) mk x (v ∷ []) is $ fjoin ! $ move ! (1 ∷ 0 ∷ []) $ join ! $ frame ! $ done !
 
-  pub calls-two : K → {f : Name} → FmC 𝓤 H (W .laws) C → (R : RattleType) → Makes 𝓤 H A R (Is R) → (x : R .Denot) (v : Val) → Is R x (v ∷ []) → (R′ : RattleType) → Makes 𝓤 H A R′ (Is R′) → (x′ : R′ .Denot) (v′ : Val) → Is R′ x′ (v′ ∷ [])
+  pub calls-two : K → {f : Name} → FmC 𝓤 H (W .laws) C → (R : RattleType) → Makes 𝓤 H A R (Is R) → (x : R .Denot) (v : Val) → Is R x (v ∷ []) → (R′ : RattleType)
+      → Makes 𝓤 H A R′ (Is R′) → (x′ : R′ .Denot) (v′ : Val) → Is R′ x′ (v′ ∷ [])
       → (S : RattleType) (F : S .Denot → Type 0) (T : Ended) (κs : Lfts (T .signature .lifetimes)) (a : Args (T .signature) κs)
-      → ent 𝓤 (AskTwo 𝓤 H A R x v R′ x′ v′) (C f (v ∷ v′ ∷ []) (Answers 𝓤 H A S (λ r. Said 𝓤 H A T κs a (F r)))) → Opds K W (raw (AskTwo 𝓤 H A R x v R′ x′ v′) ∷ Γ) E xs (v ∷ v′ ∷ [])
+      → ent 𝓤 (AskTwo 𝓤 H A R x v R′ x′ v′) (C f (v ∷ v′ ∷ []) (Answers 𝓤 H A S (λ r. Said 𝓤 H A T κs a (F r))))
+      → Opds K W (raw (AskTwo 𝓤 H A R x v R′ x′ v′) ∷ Γ) E xs (v ∷ v′ ∷ [])
       → ((u : Val) (r : S .Denot) → F r → Is S r (u ∷ []) → Seq K W Γ (lands C Λ E d u rest q)) → Seq K W Γ (runs C Λ E (seq (call f xs d) rest) q)
   calls-two t fm R mk x v is R′ mk′ x′ v′ is′ S F T κs a known os k =
-      nothing t $ use1 W (raw (AskTwo 𝓤 H A R x v R′ x′ v′)) asked $ calls-from t fm (raw (AskTwo 𝓤 H A R x v R′ x′ v′)) (v ∷ v′ ∷ []) (Answers 𝓤 H A S (λ r. Said 𝓤 H A T κs a (F r))) known os (λ u.
+      nothing t $ use1 W (raw (AskTwo 𝓤 H A R x v R′ x′ v′)) asked $
+      calls-from t fm (raw (AskTwo 𝓤 H A R x v R′ x′ v′)) (v ∷ v′ ∷ []) (Answers 𝓤 H A S (λ r. Said 𝓤 H A T κs a (F r))) known os (λ u.
       hears t tt S (‵ ftrue) F (λ r. said 𝓤 H A T κs a (F r)) u (λ r e is″. drop t $ k u r e is″))
     where
       asked : ent 𝓤 (sem 𝓤 H A ftrue) (AskTwo 𝓤 H A R x v R′ x′ v′)
-      asked = qed W (‵ ftrue ∷ []) ∵ nothing ! $ owned ! R′ (Is R′) mk′ x′ (v′ ∷ []) is′ $ fjoin ! $ owned ! R (Is R) mk x (v ∷ []) is $ fjoin ! $ move ! (1 ∷ 0 ∷ []) $ join ! $ frame ! $ done !
+      asked = qed W (‵ ftrue ∷ []) ∵ nothing ! $ owned ! R′ (Is R′) mk′ x′ (v′ ∷ []) is′ $ fjoin ! $ owned ! R (Is R) mk x (v ∷ []) is $ fjoin ! $ move ! (1 ∷ 0 ∷ []) $ join ! $
+          frame ! $ done !
 
   module _ (mem : Memory → SProp 𝓤) (run : Routine → Fun 𝓤) {κ : Lft} {p : Share} {b o : ℕ} {γ : GName} (ys : List Slot) where
-    pub loads : K → FmC 𝓤 H (W .laws) C → Triple 𝓤 (C #load) (Load 𝓤 H A mem run) → length ys ≡ 32 → Opds K W (raw (Load 𝓤 H A mem run .pre (toLoad 𝓤 H A mem run κ p b o γ ys)) ∷ Γ) E xs (sliceOf b o ys ∷ [])
+    pub loads : K → FmC 𝓤 H (W .laws) C → Triple 𝓤 (C #load) (Load 𝓤 H A mem run) → length ys ≡ 32
+        → Opds K W (raw (Load 𝓤 H A mem run .pre (toLoad 𝓤 H A mem run κ p b o γ ys)) ∷ Γ) E xs (sliceOf b o ys ∷ [])
         → ((v : Val) → Is Slots ys (v ∷ []) → Seq K W (‵ (flft κ p) ∷ Γ) (lands C Λ E d v rest q))
         → Seq K W (‵ (ShrSlots κ b o γ ys) ∷ ‵ (flft κ p) ∷ Γ) (runs C Λ E (seq (call #load xs d) rest) q)
     loads t fm known n32 os k =
@@ -175,14 +183,17 @@ module _ {M : Type 1} {𝓤 : URA M} {H : Heap 𝓤} {A : Atoms 𝓤} {K : Type 
             qed W (‵ (ShrSlots κ b o γ ys) ∷ ‵ (flft κ p) ∷ []) ∵ says ! n32 $ nothing ! $ move ! (2 ∷ 0 ∷ []) $ join ! $ frame ! $
             nothing ! $ move ! (1 ∷ 0 ∷ []) $ fjoin ! $ done !
 
-module _ {M : Type 1} {𝓤 : URA M} {H : Heap 𝓤} {A : Atoms 𝓤} {K : Type 0} {W : Given 𝓤 H A} {Γ : List (Item 𝓤)} {E : Env 𝓤 H} {C : Calls 𝓤 H} {Λ : Loops 𝓤 H} {q : Post 𝓤 H} {xs : List Operand} {d : Place} {rest : Body} where
+module _ {M : Type 1} {𝓤 : URA M} {H : Heap 𝓤} {A : Atoms 𝓤} {K : Type 0} {W : Given 𝓤 H A} {Γ : List (Item 𝓤)} {E : Env 𝓤 H} {C : Calls 𝓤 H} {Λ : Loops 𝓤 H} {q : Post 𝓤 H}
+    {xs : List Operand} {d : Place} {rest : Body} where
   module _ (mem : Memory → SProp 𝓤) (run : Routine → Fun 𝓤) {κ : Lft} {p : Share} {b o : ℕ} {γ : GName} (ys : List Slot) where
     pub loads-mut : K → FmC 𝓤 H (W .laws) C → Triple 𝓤 (C #load) (Load 𝓤 H A mem run) → Room T.the-row (length ys) → length ys ≡ 32
-        → ((ν : ℕ) (δ : GName) → Opds K W (raw (Load 𝓤 H A mem run .pre (toLoad 𝓤 H A mem run (ν ∷ []) fullShare b o δ ys)) ∷ ‵ (LentShared T.the-row κ (ν ∷ []) p γ b o ys) ∷ Γ) E xs (sliceOf b o ys ∷ []))
+        → ((ν : ℕ) (δ : GName) → Opds K W (raw (Load 𝓤 H A mem run .pre (toLoad 𝓤 H A mem run (ν ∷ []) fullShare b o δ ys)) ∷ ‵ (LentShared T.the-row κ (ν ∷ []) p γ b o ys)
+        ∷ Γ) E xs (sliceOf b o ys ∷ []))
         → ((v : Val) → Is Slots ys (v ∷ []) → Seq K W (‵ (MutSlots κ b o γ ys) ∷ ‵ (flft κ p) ∷ Γ) (lands C Λ E d v rest q))
         → Seq K W (‵ (MutSlots κ b o γ ys) ∷ ‵ (flft κ p) ∷ Γ) (runs C Λ E (seq (call #load xs d) rest) q)
     loads-mut t fm known room n32 os k = lft-new t tt (λ ν. move t (1 ∷ 2 ∷ []) $
-        use2 W (later (some (λ (δ : GName). ‵ (ShrSlots (ν ∷ []) b o δ ys) ⊛ ‵ (LentShared T.the-row κ (ν ∷ []) p γ b o ys)))) (lends-shared T.the-row κ (ν ∷ []) p γ b o ys 𝓤 H A W (named 0) (named 0)) $ await t tt $ pick t (λ δ. split t $ move t (0 ∷ 2 ∷ []) $
+        use2 W (later (some (λ (δ : GName). ‵ (ShrSlots (ν ∷ []) b o δ ys) ⊛ ‵ (LentShared T.the-row κ (ν ∷ []) p γ b o ys)))) (lends-shared T.the-row κ (ν ∷ []) p γ b o ys 𝓤 H A W
+        (named 0) (named 0)) $ await t tt $ pick t (λ δ. split t $ move t (0 ∷ 2 ∷ []) $
         loads mem run ys t fm known n32 (os ν δ) (λ v is. lft-end t tt $
         use2 W (later (‵ (MutSlots κ b o γ ys) ⊛ ‵ (flft κ p))) (shared-back T.the-row κ (ν ∷ []) p γ b o ys 𝓤 H A W (named 0) (named 0) room) $ await t tt $ split t $ k v is)))
 
@@ -193,8 +204,10 @@ module _ {M : Type 1} {𝓤 : URA M} {H : Heap 𝓤} {A : Atoms 𝓤} {K : Type 
     stores t fm known n32 l v is os k =
         use2 W (raw (Store 𝓤 H A mem run .pre (toStore 𝓤 H A mem run κ p b o γ ys l v))) asked $
         calls-at t fm (Store 𝓤 H A mem run) known (toStore 𝓤 H A mem run κ p b o γ ys l v) os (λ u.
-        use1 W (later (some (λ (r : Unit {0}). ((‵ (flft κ p) ⊛ ‵ ftrue) ⊛ ‵ (Nothing .own r (u ∷ []))) ⊛ raw (ensured 𝓤 H A store′.ended (store′.clauses 𝓤 H A mem run) (κ, tt) (lentAt b o γ ys, (l, tt)) tt r)))) (id⊢ 𝓤 _) $ await t tt $ pick t (λ r.
-        split t $ move t (1 ∷ []) $ use1 W (some (λ (ls : Lasts store′.ended (κ, tt) (lentAt b o γ ys, (l, tt))). ‵ (lasts store′.ended (κ, tt) (lentAt b o γ ys, (l, tt)) ls) ⊛ raw (fact 𝓤 (ls .0 ≡ l)))) (id⊢ 𝓤 _) $ pick t (λ ls.
+        use1 W (later (some (λ (r : Unit {0}). ((‵ (flft κ p) ⊛ ‵ ftrue) ⊛ ‵ (Nothing .own r (u ∷ []))) ⊛ raw (ensured 𝓤 H A store′.ended (store′.clauses 𝓤 H A mem run) (κ, tt)
+        (lentAt b o γ ys, (l, tt)) tt r)))) (id⊢ 𝓤 _) $ await t tt $ pick t (λ r.
+        split t $ move t (1 ∷ []) $ use1 W (some (λ (ls : Lasts store′.ended (κ, tt) (lentAt b o γ ys, (l, tt))). ‵ (lasts store′.ended (κ, tt) (lentAt b o γ ys, (l, tt)) ls) ⊛ raw
+        (fact 𝓤 (ls .0 ≡ l)))) (id⊢ 𝓤 _) $ pick t (λ ls.
         split t $ move t (1 ∷ []) $ heard t (ls .0 ≡ l) (λ e. fsplit t $ fsplit t $ move t (1 ∷ []) $ feqL t (λ len. move t (1 ∷ []) $ drop t $
         move t (1 ∷ []) $ split t $ move t (1 ∷ []) $ feqL t (λ is′. split t $ move t (1 ∷ []) $ drop t $
         rewrite t 1 (λ (m : List Slot). ‵ (finally T.the-row γ m)) e refl $ move t (1 ∷ 0 ∷ []) $ k u (unit-typed u is′) (sym (ap length e) ∙ len)))))))
@@ -204,15 +217,24 @@ module _ {M : Type 1} {𝓤 : URA M} {H : Heap 𝓤} {A : Atoms 𝓤} {K : Type 
             qed W (‵ (MutSlots κ b o γ ys) ∷ ‵ (flft κ p) ∷ []) ∵ says ! n32 $ nothing ! $ move ! (2 ∷ 0 ∷ []) $ join ! $ frame ! $ nothing ! $
             owned ! Slots (Is Slots) (array-makes 𝓤 H A W T.the-row (makes 𝓤 H A) 32) l _ is $ fjoin ! $ move ! (1 ∷ 0 ∷ []) $ fjoin ! $ done !
 
-    pub puts-block : K → FmC 𝓤 H (W .laws) C → Triple 𝓤 (C #put-block) (PutBlock 𝓤 H A mem run) → (i : ℕ) (vi : Val) → Is usize i (vi ∷ []) → i + 4 ≤ length ys → (l : List Slot) (v : Val) → Is Block l (v ∷ [])
+    pub puts-block : K → FmC 𝓤 H (W .laws) C → Triple 𝓤 (C #put-block) (PutBlock 𝓤 H A mem run) → (i : ℕ) (vi : Val) → Is usize i (vi ∷ []) → i + 4 ≤ length ys
+        → (l : List Slot) (v : Val) → Is Block l (v ∷ [])
         → Opds K W (raw (PutBlock 𝓤 H A mem run .pre (toPut 𝓤 H A mem run κ p b o γ ys i vi l v)) ∷ Γ) E xs (sliceOf b o ys ∷ vi ∷ v ∷ [])
-        → ((u : Val) → Holds (hasTy tyUnit u) × WT u → length (setBlock ys i l) ≡ length ys → Seq K W (‵ (finally T.the-row γ (setBlock ys i l)) ∷ ‵ (flft κ p) ∷ Γ) (lands C Λ E d u rest q))
+        → ((u : Val) → Holds (hasTy tyUnit u) × WT u → length (setBlock ys i l) ≡ length ys
+        → Seq K W (‵ (finally T.the-row γ (setBlock ys i l)) ∷ ‵ (flft κ p) ∷ Γ) (lands C Λ E d u rest q))
         → Seq K W (‵ (MutSlots κ b o γ ys) ∷ ‵ (flft κ p) ∷ Γ) (runs C Λ E (seq (call #put-block xs d) rest) q)
     puts-block t fm known i vi isi inside l v is os k =
         use2 W (raw (PutBlock 𝓤 H A mem run .pre (toPut 𝓤 H A mem run κ p b o γ ys i vi l v))) asked $
         calls-at t fm (PutBlock 𝓤 H A mem run) known (toPut 𝓤 H A mem run κ p b o γ ys i vi l v) os (λ u.
-        use1 W (later (some (λ (r : Unit {0}). ((‵ (flft κ p) ⊛ ‵ ftrue) ⊛ ‵ (Nothing .own r (u ∷ []))) ⊛ raw (ensured 𝓤 H A put-block.ended (put-block.clauses 𝓤 H A mem run) (κ, tt) (lentAt b o γ ys, (i, (l, tt))) tt r)))) (id⊢ 𝓤 _) $ await t tt $ pick t (λ r.
-        split t $ move t (1 ∷ []) $ use1 W (some (λ (ls : Lasts put-block.ended (κ, tt) (lentAt b o γ ys, (i, (l, tt)))). ‵ (lasts put-block.ended (κ, tt) (lentAt b o γ ys, (i, (l, tt))) ls) ⊛ raw (fact 𝓤 (ls .0 ≡ setBlock ys i l)))) (id⊢ 𝓤 _) $ pick t (λ ls.
+        use1 W (later (some (λ (r : Unit {0}). ((‵ (flft κ p) ⊛ ‵ ftrue) ⊛ ‵ (Nothing .own r (u ∷ []))) ⊛ raw (ensured 𝓤 H A put-block.ended (put-block.clauses 𝓤 H A mem run)
+        (κ, tt) (lentAt b o γ ys, (i, (l, tt))) tt r)))) (id⊢ 𝓤 _) $ await t tt $ pick t (λ r.
+        split t $ move t (1 ∷ []) $ use1 W (some (λ (ls : Lasts put-block.ended (κ, tt) (lentAt b o γ ys, (i, (l, tt)))). ‵ (lasts put-block.ended (κ, tt) (
+          lentAt b o γ ys,
+          (
+            i,
+            (l, tt),
+          ),
+        ) ls) ⊛ raw (fact 𝓤 (ls .0 ≡ setBlock ys i l)))) (id⊢ 𝓤 _) $ pick t (λ ls.
         split t $ move t (1 ∷ []) $ heard t (ls .0 ≡ setBlock ys i l) (λ e. fsplit t $ fsplit t $ move t (1 ∷ []) $ feqL t (λ len. move t (1 ∷ []) $ drop t $
         move t (1 ∷ []) $ split t $ move t (1 ∷ []) $ feqL t (λ is′. split t $ move t (1 ∷ []) $ drop t $
         rewrite t 1 (λ (m : List Slot). ‵ (finally T.the-row γ m)) e refl $ move t (1 ∷ 0 ∷ []) $ k u (unit-typed u is′) (sym (ap length e) ∙ len)))))))
@@ -220,4 +242,5 @@ module _ {M : Type 1} {𝓤 : URA M} {H : Heap 𝓤} {A : Atoms 𝓤} {K : Type 
         asked : ent 𝓤 (sep 𝓤 (sem 𝓤 H A (MutSlots κ b o γ ys)) (A .lft κ p)) (PutBlock 𝓤 H A mem run .pre (toPut 𝓤 H A mem run κ p b o γ ys i vi l v))
         asked =
             qed W (‵ (MutSlots κ b o γ ys) ∷ ‵ (flft κ p) ∷ []) ∵ says ! inside $ nothing ! $ move ! (2 ∷ 0 ∷ []) $ join ! $ frame ! $ nothing ! $
-            owned ! Block (Is Block) (array-makes 𝓤 H A W T.the-row (makes 𝓤 H A) 4) l _ is $ fjoin ! $ owned ! usize (Is usize) (uint-makes 𝓤 H A W w64) i _ isi $ fjoin ! $ move ! (1 ∷ 0 ∷ []) $ fjoin ! $ done !
+            owned ! Block (Is Block) (array-makes 𝓤 H A W T.the-row (makes 𝓤 H A) 4) l _ is $ fjoin ! $ owned ! usize (Is usize) (uint-makes 𝓤 H A W w64) i _ isi $ fjoin ! $
+            move ! (1 ∷ 0 ∷ []) $ fjoin ! $ done !

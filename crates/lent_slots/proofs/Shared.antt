@@ -34,7 +34,8 @@ module _ (R : RattleType) (κ κ′ : Lft) (q : Share) (γ : GName) (b o : ℕ) 
   vals = sliceVal (b, o) (length ys) ∷ []
 
   abbrev pub LentShared : Fml
-  LentShared = fsep (flent κ′ (arr-parts (shares R) (length ys) .part fullShare ys b o)) (fsep (fobor κ q (Held R (length ys) b o γ)) (fsep (fobs γ (codedHoleys R .code (heres R ys))) (fauth γ (codedHoleys R .code (heres R ys)))))
+  LentShared = fsep (flent κ′ (arr-parts (shares R) (length ys) .part fullShare ys b o)) (fsep (fobor κ q (Held R (length ys) b o γ)) (fsep (fobs γ (codedHoleys R .code
+      (heres R ys))) (fauth γ (codedHoleys R .code (heres R ys)))))
 
   module _ {M : Type 1} (𝓤 : URA M) (H : Heap 𝓤) (A : Atoms 𝓤) (W : Given 𝓤 H A) (ℓ ℓ′ : Lifetime) where
     pub lends-shared : ent 𝓤 (sep 𝓤 (sem 𝓤 H A (MutSlice ℓ κ R .own (at γ) vals)) (A .lft κ q))
@@ -42,7 +43,8 @@ module _ (R : RattleType) (κ κ′ : Lft) (q : Share) (γ : GName) (b o : ℕ) 
     lends-shared =
         qed W (‵ (MutSlice ℓ κ R .own (at γ) vals) ∷ ‵ (flft κ q) ∷ []) ∵ updating ! $ fsplit ! $ pureL ! (at-slice R (at γ) vals) (λ p. fsplit ! $ opens-slice ! tt R ys b o $
         feqI ! ℕ (length ys) (length ys) refl $ fjoin ! $
-        use1 W (later (some (λ (γ₁ : GName). ‵ (ShrSlice ℓ′ κ′ R .own (at γ₁) vals) ⊛ ‵ (flent κ′ (arr-parts (shares R) (length ys) .part fullShare ys b o))))) (lends-shr-slice 𝓤 H A W R ℓ′ κ′ fullShare ys b o (p .1)) $ await ! tt $ pick ! (λ γ₁. split ! $
+        use1 W (later (some (λ (γ₁ : GName). ‵ (ShrSlice ℓ′ κ′ R .own (at γ₁) vals) ⊛ ‵ (flent κ′ (arr-parts (shares R) (length ys) .part fullShare ys b o)))))
+        (lends-shr-slice 𝓤 H A W R ℓ′ κ′ fullShare ys b o (p .1)) $ await ! tt $ pick ! (λ γ₁. split ! $
         at-once ! $ show ! (λ (γ′ : GName). sep 𝓤 (sem 𝓤 H A (ShrSlice ℓ′ κ′ R .own (at γ′) vals)) (sem 𝓤 H A LentShared)) γ₁ $ frame ! $
         move ! (2 ∷ 3 ∷ []) $ fjoin ! $ move ! (2 ∷ 0 ∷ []) $ fjoin ! $ move ! (1 ∷ 0 ∷ []) $ fjoin ! $ done !))
 

@@ -92,7 +92,8 @@ module _ (ys : List Slot) (i : ℕ) (bs : List Slot) where
   unfolding setBlock
   all-four = refl
 
-module _ {M : Type 1} (𝓤 : URA M) (H : Heap 𝓤) (A : Atoms 𝓤) (W : Given 𝓤 H A) (mem : Memory → SProp 𝓤) (run : Routine → Fun 𝓤) (κ : Lft) (q : Share) (b o : ℕ) (γ : GName) (ys : List Slot) (i : ℕ) (bs : List Slot) where
+module _ {M : Type 1} (𝓤 : URA M) (H : Heap 𝓤) (A : Atoms 𝓤) (W : Given 𝓤 H A) (mem : Memory → SProp 𝓤) (run : Routine
+    → Fun 𝓤) (κ : Lft) (q : Share) (b o : ℕ) (γ : GName) (ys : List Slot) (i : ℕ) (bs : List Slot) where
   abbrev Arg : Type 0
   Arg = RefT (List Slot) × (ℕ × (List Slot × Unit {0}))
 
@@ -114,10 +115,18 @@ module _ {M : Type 1} (𝓤 : URA M) (H : Heap 𝓤) (A : Atoms 𝓤) (W : Given
     exits : ent 𝓤 (⋆ 𝓤 H A (‵ (fobs γ (codedHoleys T.the-row .code (heres T.the-row zs))) ∷ ‵ (fbor κ (Held T.the-row (length zs) b o γ)) ∷ ‵ (flft κ q) ∷ [])) (Post vunit)
     exits =
         qed W (‵ (fobs γ (codedHoleys T.the-row .code (heres T.the-row zs))) ∷ ‵ (fbor κ (Held T.the-row (length zs) b o γ)) ∷ ‵ (flft κ q) ∷ []) ∵
-        suffices ! _ (ends-at 𝓤 H A put-block.ended stayed (put-block.clauses 𝓤 H A mem run) W (((κ, tt), (q, tt), tt, x ys, at), tt) vunit tt (zs, (tt, (tt, tt))) (len₄ ys i bs, (tt, (tt, tt)))) $ says ! (all-four ys i bs) $
+        suffices ! _ (ends-at 𝓤 H A put-block.ended stayed (put-block.clauses 𝓤 H A mem run) W (((κ, tt), (q, tt), tt, x ys, at), tt) vunit tt (zs, (tt, (tt, tt))) (
+          len₄ ys i bs,
+          (tt, (tt, tt)),
+        )) $ says ! (all-four ys i bs) $
         nothing ! $ move ! (3 ∷ 0 ∷ []) $ join ! $ frame ! $
-        fjoin ! $ pureI ! (at-slice T.the-row (x zs .0) (at .0)) (tt, (tt, tt)) (ap (λ (m : ℕ). sliceVal (b, o) m ∷ []) (sym (len₄ ys i bs)), subst (Room T.the-row) (sym (len₄ ys i bs)) gn) $ fjoin ! $
-        nothing ! $ owned ! Block (Is Block) (array-makes 𝓤 H A W T.the-row (makes 𝓤 H A) 4) bs _ gb $ fjoin ! $ owned ! usize (Is usize) (uint-makes 𝓤 H A W w64) i _ (refl, gi) $ fjoin ! $ move ! (1 ∷ 0 ∷ []) $ fjoin ! $ frame ! $
+        fjoin ! $ pureI ! (at-slice T.the-row (x zs .0) (at .0)) (tt, (tt, tt)) (
+          ap (λ (m : ℕ). sliceVal (b, o) m ∷ []) (sym (len₄ ys i bs)),
+          subst (Room T.the-row) (sym
+              (len₄ ys i bs)) gn,
+        ) $ fjoin ! $
+        nothing ! $ owned ! Block (Is Block) (array-makes 𝓤 H A W T.the-row (makes 𝓤 H A) 4) bs _ gb $ fjoin ! $ owned ! usize (Is usize) (uint-makes 𝓤 H A W w64) i _ (refl, gi) $
+        fjoin ! $ move ! (1 ∷ 0 ∷ []) $ fjoin ! $ frame ! $
         feqI ! (List Val) (vunit ∷ []) (vunit ∷ []) refl $ done !
 
     b4 : length bs ≡ 4
@@ -145,8 +154,11 @@ module _ {M : Type 1} (𝓤 : URA M) (H : Heap 𝓤) (A : Atoms 𝓤) (W : Given
           let a₁ : i + 1 < length (m₁ ys i bs) = omega (arith, l, len₁ ys i bs) in
           let a₂ : i + 2 < length (m₂ ys i bs) = omega (arith, l, len₂ ys i bs) in
           let a₃ : i + 3 < length (m₃ ys i bs) = omega (arith, l, len₃ ys i bs) in
-          qed W ((‵ (flft κ q) ⊛ ‵ ftrue) ∷ ‵ (owns (MutSlice (named 0) κ T.the-row ∷ usize ∷ Block ∷ []) (x ys) at) ∷ []) ∵ enter ! C Λ code.function (sliceVal (b, o) (length ys) ∷ vint w64 i ∷ bv bs ∷ []) _ $
-          alloc1 ! (λ l₀. alloc1 ! (λ l₁. alloc1 ! (λ l₂. alloc1 ! (λ l₃. alloc1 ! (λ l₄. alloc1 ! (λ l₅. alloc1 ! (λ l₆. alloc1 ! (λ l₇. alloc1 ! (λ l₈. alloc1 ! (λ l₉. alloc1 ! (λ l₁₀. alloc1 ! (λ l₁₁. alloc1 ! (λ l₁₂. alloc1 ! (λ l₁₃. alloc1 ! (λ l₁₄. alloc1 ! (λ l₁₅. alloc1 ! (λ l₁₆. alloc1 ! (λ l₁₇. alloc1 ! (λ l₁₈. alloc1 ! (λ l₁₉. alloc0 ! $ params1 ! $
+          qed W ((‵ (flft κ q) ⊛ ‵ ftrue) ∷ ‵ (owns (MutSlice (named 0) κ T.the-row ∷ usize ∷ Block ∷ []) (x ys) at) ∷ []) ∵ enter ! C Λ code.function (sliceVal (b, o) (length ys)
+          ∷ vint w64 i ∷ bv bs ∷ []) _ $
+          alloc1 ! (λ l₀. alloc1 ! (λ l₁. alloc1 ! (λ l₂. alloc1 ! (λ l₃. alloc1 ! (λ l₄. alloc1 ! (λ l₅. alloc1 ! (λ l₆. alloc1 ! (λ l₇. alloc1 ! (λ l₈. alloc1 ! (λ l₉. alloc1 !
+          (λ l₁₀. alloc1 ! (λ l₁₁. alloc1 ! (λ l₁₂. alloc1 ! (λ l₁₃. alloc1 ! (λ l₁₄. alloc1 ! (λ l₁₅. alloc1 ! (λ l₁₆. alloc1 ! (λ l₁₇. alloc1 ! (λ l₁₈. alloc1 !
+          (λ l₁₉. alloc0 ! $ params1 ! $
           pass1 ! (init ! 36 refl (tt, (tt, (record { fits = gn .0 }, tt)))) $ pass1 ! (init ! 34 refl (tt, record { fits = gi })) $ pass1 ! (init ! 32 refl (typed-b)) $ pass0 ! $
           assigns ! (of-opd ! (load ! (from ! (stop !)) (look ! 32 refl))) (from ! (stop !)) (init ! 30 refl (typed-b)) $
           -- the block is taken apart into its elements, and the borrow is opened
@@ -162,12 +174,14 @@ module _ {M : Type 1} (𝓤 : URA M) (H : Heap 𝓤) (A : Atoms 𝓤) (W : Given
           assigns ! (of-opd ! (load ! (from ! (hop ! (look ! 37 refl) (stop !))) (look-raw ! 0 refl))) (from ! (stop !)) (init ! 35 refl (typed W (elem ys i bs 0) g₀)) $
           elem-back ! T.the-row fullShare bs 0 freeSlot (value (elem ys i bs 0) ∷ []) l₄ 0 h₀ $
           assigns ! (bin ! (load ! (from ! (stop !)) (look ! 42 refl)) (lit ! tt) (record { fits = wide₀ })) (from ! (stop !)) (init ! 31 refl (tt, record { fits = wide₀ })) $
-          assigns ! (bin ! (load ! (from ! (fld ! refl (stop !))) (look-in ! 44 (sub ! 0 refl (whole !)))) (load ! (from ! (stop !)) (look ! 31 refl)) tt) (from ! (stop !)) (init ! 29 refl (tt, tt)) $
+          assigns ! (bin ! (load ! (from ! (fld ! refl (stop !))) (look-in ! 44 (sub ! 0 refl (whole !)))) (load ! (from ! (stop !)) (look ! 31 refl)) tt) (from ! (stop !))
+          (init ! 29 refl (tt, tt)) $
           rewrite ! 29 (λ (p : ℕ). ‵ (fat fullShare tyPtr l₉ 0 (vptr b p))) (sym (place-is 20 o i)) refl $
           move ! (1 ∷ []) $
           slot-out ! fullShare ys i b o a₀ (λ _.
           assigns ! (of-opd ! (load ! (from ! (stop !)) (look ! 35 refl))) (from ! (hop ! (look ! 31 refl) (stop !))) (store-raw ! 0 refl (typed W (elem ys i bs 0) g₀)) $
-          move ! (1 ∷ []) $ drop ! $ slot-owned ! (elem ys i bs 0) g₀ $ move ! (1 ∷ 0 ∷ []) $ elem-put ! T.the-row fullShare ys i (elem ys i bs 0) (value (elem ys i bs 0) ∷ []) b o a₀ $
+          move ! (1 ∷ []) $ drop ! $ slot-owned ! (elem ys i bs 0) g₀ $ move ! (1 ∷ 0 ∷ []) $
+          elem-put ! T.the-row fullShare ys i (elem ys i bs 0) (value (elem ys i bs 0) ∷ []) b o a₀ $
           -- slot 1 of the block is read, and put at i + 1
           assigns ! (addr ! (from ! (stop !))) (from ! (stop !)) (init ! 27 refl (tt, tt)) $
           assigns ! (bin ! (load ! (from ! (stop !)) (look ! 27 refl)) (lit ! tt) tt) (from ! (stop !)) (init ! 25 refl (tt, tt)) $
@@ -175,14 +189,18 @@ module _ {M : Type 1} (𝓤 : URA M) (H : Heap 𝓤) (A : Atoms 𝓤) (W : Given
           slot-out ! fullShare bs 1 l₄ 0 h₁ (λ g₁.
           assigns ! (of-opd ! (load ! (from ! (hop ! (look ! 27 refl) (stop !))) (look-raw ! 0 refl))) (from ! (stop !)) (store ! 35 refl (typed W (elem ys i bs 1) g₁)) $
           elem-back ! T.the-row fullShare bs 1 freeSlot (value (elem ys i bs 1) ∷ []) l₄ 0 h₁ $
-          assigns ! (bin ! (load ! (from ! (stop !)) (look ! 42 refl)) (lit ! tt) (record { fits = fits 1 (lit< tt) })) (from ! (stop !)) (store ! 31 refl (tt, record { fits = fits 1 (lit< tt) })) $
-          assigns ! (bin ! (load ! (from ! (stop !)) (look ! 31 refl)) (lit ! tt) (record { fits = wide 1 (lit< tt) })) (from ! (stop !)) (init ! 23 refl (tt, record { fits = wide 1 (lit< tt) })) $
-          assigns ! (bin ! (load ! (from ! (fld ! refl (stop !))) (look-in ! 44 (sub ! 0 refl (whole !)))) (load ! (from ! (stop !)) (look ! 23 refl)) tt) (from ! (stop !)) (init ! 21 refl (tt, tt)) $
+          assigns ! (bin ! (load ! (from ! (stop !)) (look ! 42 refl)) (lit ! tt) (record { fits = fits 1 (lit< tt) })) (from ! (stop !)) (store ! 31 refl
+          (tt, record { fits = fits 1 (lit< tt) })) $
+          assigns ! (bin ! (load ! (from ! (stop !)) (look ! 31 refl)) (lit ! tt) (record { fits = wide 1 (lit< tt) })) (from ! (stop !)) (init ! 23 refl
+          (tt, record { fits = wide 1 (lit< tt) })) $
+          assigns ! (bin ! (load ! (from ! (fld ! refl (stop !))) (look-in ! 44 (sub ! 0 refl (whole !)))) (load ! (from ! (stop !)) (look ! 23 refl)) tt) (from ! (stop !))
+          (init ! 21 refl (tt, tt)) $
           rewrite ! 21 (λ (p : ℕ). ‵ (fat fullShare tyPtr l₁₃ 0 (vptr b p))) (sym (place-is 20 o (i + 1))) refl $
           move ! (1 ∷ []) $
           slot-out ! fullShare (m₁ ys i bs) (i + 1) b o a₁ (λ _.
           assigns ! (of-opd ! (load ! (from ! (stop !)) (look ! 35 refl))) (from ! (hop ! (look ! 23 refl) (stop !))) (store-raw ! 0 refl (typed W (elem ys i bs 1) g₁)) $
-          move ! (1 ∷ []) $ drop ! $ slot-owned ! (elem ys i bs 1) g₁ $ move ! (1 ∷ 0 ∷ []) $ elem-put ! T.the-row fullShare (m₁ ys i bs) (i + 1) (elem ys i bs 1) (value (elem ys i bs 1) ∷ []) b o a₁ $
+          move ! (1 ∷ []) $ drop ! $ slot-owned ! (elem ys i bs 1) g₁ $ move ! (1 ∷ 0 ∷ []) $
+          elem-put ! T.the-row fullShare (m₁ ys i bs) (i + 1) (elem ys i bs 1) (value (elem ys i bs 1) ∷ []) b o a₁ $
           -- slot 2 of the block is read, and put at i + 2
           assigns ! (addr ! (from ! (stop !))) (from ! (stop !)) (init ! 19 refl (tt, tt)) $
           assigns ! (bin ! (load ! (from ! (stop !)) (look ! 19 refl)) (lit ! tt) tt) (from ! (stop !)) (init ! 17 refl (tt, tt)) $
@@ -190,14 +208,18 @@ module _ {M : Type 1} (𝓤 : URA M) (H : Heap 𝓤) (A : Atoms 𝓤) (W : Given
           slot-out ! fullShare bs 2 l₄ 0 h₂ (λ g₂.
           assigns ! (of-opd ! (load ! (from ! (hop ! (look ! 19 refl) (stop !))) (look-raw ! 0 refl))) (from ! (stop !)) (store ! 35 refl (typed W (elem ys i bs 2) g₂)) $
           elem-back ! T.the-row fullShare bs 2 freeSlot (value (elem ys i bs 2) ∷ []) l₄ 0 h₂ $
-          assigns ! (bin ! (load ! (from ! (stop !)) (look ! 42 refl)) (lit ! tt) (record { fits = fits 2 (lit< tt) })) (from ! (stop !)) (store ! 23 refl (tt, record { fits = fits 2 (lit< tt) })) $
-          assigns ! (bin ! (load ! (from ! (stop !)) (look ! 23 refl)) (lit ! tt) (record { fits = wide 2 (lit< tt) })) (from ! (stop !)) (store ! 31 refl (tt, record { fits = wide 2 (lit< tt) })) $
-          assigns ! (bin ! (load ! (from ! (fld ! refl (stop !))) (look-in ! 44 (sub ! 0 refl (whole !)))) (load ! (from ! (stop !)) (look ! 31 refl)) tt) (from ! (stop !)) (init ! 15 refl (tt, tt)) $
+          assigns ! (bin ! (load ! (from ! (stop !)) (look ! 42 refl)) (lit ! tt) (record { fits = fits 2 (lit< tt) })) (from ! (stop !)) (store ! 23 refl
+          (tt, record { fits = fits 2 (lit< tt) })) $
+          assigns ! (bin ! (load ! (from ! (stop !)) (look ! 23 refl)) (lit ! tt) (record { fits = wide 2 (lit< tt) })) (from ! (stop !)) (store ! 31 refl
+          (tt, record { fits = wide 2 (lit< tt) })) $
+          assigns ! (bin ! (load ! (from ! (fld ! refl (stop !))) (look-in ! 44 (sub ! 0 refl (whole !)))) (load ! (from ! (stop !)) (look ! 31 refl)) tt) (from ! (stop !))
+          (init ! 15 refl (tt, tt)) $
           rewrite ! 15 (λ (p : ℕ). ‵ (fat fullShare tyPtr l₁₆ 0 (vptr b p))) (sym (place-is 20 o (i + 2))) refl $
           move ! (1 ∷ []) $
           slot-out ! fullShare (m₂ ys i bs) (i + 2) b o a₂ (λ _.
           assigns ! (of-opd ! (load ! (from ! (stop !)) (look ! 35 refl))) (from ! (hop ! (look ! 17 refl) (stop !))) (store-raw ! 0 refl (typed W (elem ys i bs 2) g₂)) $
-          move ! (1 ∷ []) $ drop ! $ slot-owned ! (elem ys i bs 2) g₂ $ move ! (1 ∷ 0 ∷ []) $ elem-put ! T.the-row fullShare (m₂ ys i bs) (i + 2) (elem ys i bs 2) (value (elem ys i bs 2) ∷ []) b o a₂ $
+          move ! (1 ∷ []) $ drop ! $ slot-owned ! (elem ys i bs 2) g₂ $ move ! (1 ∷ 0 ∷ []) $
+          elem-put ! T.the-row fullShare (m₂ ys i bs) (i + 2) (elem ys i bs 2) (value (elem ys i bs 2) ∷ []) b o a₂ $
           -- slot 3 of the block is read, and put at i + 3
           assigns ! (addr ! (from ! (stop !))) (from ! (stop !)) (init ! 13 refl (tt, tt)) $
           assigns ! (bin ! (load ! (from ! (stop !)) (look ! 13 refl)) (lit ! tt) tt) (from ! (stop !)) (init ! 11 refl (tt, tt)) $
@@ -205,14 +227,18 @@ module _ {M : Type 1} (𝓤 : URA M) (H : Heap 𝓤) (A : Atoms 𝓤) (W : Given
           slot-out ! fullShare bs 3 l₄ 0 h₃ (λ g₃.
           assigns ! (of-opd ! (load ! (from ! (hop ! (look ! 13 refl) (stop !))) (look-raw ! 0 refl))) (from ! (stop !)) (store ! 35 refl (typed W (elem ys i bs 3) g₃)) $
           elem-back ! T.the-row fullShare bs 3 freeSlot (value (elem ys i bs 3) ∷ []) l₄ 0 h₃ $
-          assigns ! (bin ! (load ! (from ! (stop !)) (look ! 42 refl)) (lit ! tt) (record { fits = fits 3 (lit< tt) })) (from ! (stop !)) (store ! 31 refl (tt, record { fits = fits 3 (lit< tt) })) $
-          assigns ! (bin ! (load ! (from ! (stop !)) (look ! 31 refl)) (lit ! tt) (record { fits = wide 3 (lit< tt) })) (from ! (stop !)) (store ! 23 refl (tt, record { fits = wide 3 (lit< tt) })) $
-          assigns ! (bin ! (load ! (from ! (fld ! refl (stop !))) (look-in ! 44 (sub ! 0 refl (whole !)))) (load ! (from ! (stop !)) (look ! 23 refl)) tt) (from ! (stop !)) (init ! 9 refl (tt, tt)) $
+          assigns ! (bin ! (load ! (from ! (stop !)) (look ! 42 refl)) (lit ! tt) (record { fits = fits 3 (lit< tt) })) (from ! (stop !)) (store ! 31 refl
+          (tt, record { fits = fits 3 (lit< tt) })) $
+          assigns ! (bin ! (load ! (from ! (stop !)) (look ! 31 refl)) (lit ! tt) (record { fits = wide 3 (lit< tt) })) (from ! (stop !)) (store ! 23 refl
+          (tt, record { fits = wide 3 (lit< tt) })) $
+          assigns ! (bin ! (load ! (from ! (fld ! refl (stop !))) (look-in ! 44 (sub ! 0 refl (whole !)))) (load ! (from ! (stop !)) (look ! 23 refl)) tt) (from ! (stop !))
+          (init ! 9 refl (tt, tt)) $
           rewrite ! 9 (λ (p : ℕ). ‵ (fat fullShare tyPtr l₁₉ 0 (vptr b p))) (sym (place-is 20 o (i + 3))) refl $
           move ! (1 ∷ []) $
           slot-out ! fullShare (m₃ ys i bs) (i + 3) b o a₃ (λ _.
           assigns ! (of-opd ! (load ! (from ! (stop !)) (look ! 35 refl))) (from ! (hop ! (look ! 11 refl) (stop !))) (store-raw ! 0 refl (typed W (elem ys i bs 3) g₃)) $
-          move ! (1 ∷ []) $ drop ! $ slot-owned ! (elem ys i bs 3) g₃ $ move ! (1 ∷ 0 ∷ []) $ elem-put ! T.the-row fullShare (m₃ ys i bs) (i + 3) (elem ys i bs 3) (value (elem ys i bs 3) ∷ []) b o a₃ $
+          move ! (1 ∷ []) $ drop ! $ slot-owned ! (elem ys i bs 3) g₃ $ move ! (1 ∷ 0 ∷ []) $
+          elem-put ! T.the-row fullShare (m₃ ys i bs) (i + 3) (elem ys i bs 3) (value (elem ys i bs 3) ∷ []) b o a₃ $
           -- the borrow is closed, and the block is put together again
           move ! (0 ∷ 2 ∷ 3 ∷ 4 ∷ []) $
           closes-slice ! tt T.the-row ys (m₄ ys i bs) len b o $
@@ -220,8 +246,14 @@ module _ {M : Type 1} (𝓤 : URA M) (H : Heap 𝓤) (A : Atoms 𝓤) (W : Given
           use1 W (some (λ (v : Val). ‵ (fat fullShare BlockTy l₄ 0 v) ⊛ ‵ (Block .own bs (v ∷ [])))) (row-in T.the-row tt 4 𝓤 H A W l₄ bs b4) $ pick ! (λ v. split ! $
           assigns ! (of-opd ! (unit-lit !)) (from ! (stop !)) (init ! 46 refl (tt, tt)) $
           returns ! (look ! 46 refl) $
-          forget ! 46 refl $ forget ! 44 refl $ forget ! 42 refl $ forget ! 40 refl $ forget ! 0 refl $ forget ! 37 refl $ forget ! 35 refl $ forget ! 33 refl $ forget ! 31 refl $ forget ! 29 refl $ forget ! 27 refl $ forget ! 25 refl $ forget ! 23 refl $ forget ! 21 refl $ forget ! 19 refl $ forget ! 17 refl $ forget ! 15 refl $ forget ! 13 refl $ forget ! 11 refl $ forget ! 9 refl $
-          move ! (46 ∷ 47 ∷ []) $ free1 ! $ move ! (44 ∷ 45 ∷ []) $ free1 ! $ move ! (42 ∷ 43 ∷ []) $ free1 ! $ move ! (40 ∷ 41 ∷ []) $ free1 ! $ move ! (0 ∷ 39 ∷ []) $ free1 ! $ move ! (36 ∷ 37 ∷ []) $ free1 ! $ move ! (34 ∷ 35 ∷ []) $ free1 ! $ move ! (32 ∷ 33 ∷ []) $ free1 ! $ move ! (30 ∷ 31 ∷ []) $ free1 ! $ move ! (28 ∷ 29 ∷ []) $ free1 ! $ move ! (26 ∷ 27 ∷ []) $ free1 ! $ move ! (24 ∷ 25 ∷ []) $ free1 ! $ move ! (22 ∷ 23 ∷ []) $ free1 ! $ move ! (20 ∷ 21 ∷ []) $ free1 ! $ move ! (18 ∷ 19 ∷ []) $ free1 ! $ move ! (16 ∷ 17 ∷ []) $ free1 ! $ move ! (14 ∷ 15 ∷ []) $ free1 ! $ move ! (12 ∷ 13 ∷ []) $ free1 ! $ move ! (10 ∷ 11 ∷ []) $ free1 ! $ move ! (8 ∷ 9 ∷ []) $ free1 ! $ free0 ! $
+          forget ! 46 refl $ forget ! 44 refl $ forget ! 42 refl $ forget ! 40 refl $ forget ! 0 refl $ forget ! 37 refl $ forget ! 35 refl $ forget ! 33 refl $ forget ! 31 refl $
+          forget ! 29 refl $ forget ! 27 refl $ forget ! 25 refl $ forget ! 23 refl $ forget ! 21 refl $ forget ! 19 refl $ forget ! 17 refl $ forget ! 15 refl $ forget ! 13 refl $
+          forget ! 11 refl $ forget ! 9 refl $
+          move ! (46 ∷ 47 ∷ []) $ free1 ! $ move ! (44 ∷ 45 ∷ []) $ free1 ! $ move ! (42 ∷ 43 ∷ []) $ free1 ! $ move ! (40 ∷ 41 ∷ []) $ free1 ! $ move ! (0 ∷ 39 ∷ []) $ free1 ! $
+          move ! (36 ∷ 37 ∷ []) $ free1 ! $ move ! (34 ∷ 35 ∷ []) $ free1 ! $ move ! (32 ∷ 33 ∷ []) $ free1 ! $ move ! (30 ∷ 31 ∷ []) $ free1 ! $ move ! (28 ∷ 29 ∷ []) $ free1 ! $
+          move ! (26 ∷ 27 ∷ []) $ free1 ! $ move ! (24 ∷ 25 ∷ []) $ free1 ! $ move ! (22 ∷ 23 ∷ []) $ free1 ! $ move ! (20 ∷ 21 ∷ []) $ free1 ! $ move ! (18 ∷ 19 ∷ []) $ free1 ! $
+          move ! (16 ∷ 17 ∷ []) $ free1 ! $ move ! (14 ∷ 15 ∷ []) $ free1 ! $ move ! (12 ∷ 13 ∷ []) $ free1 ! $ move ! (10 ∷ 11 ∷ []) $ free1 ! $ move ! (8 ∷ 9 ∷ []) $ free1 ! $
+          free0 ! $
           keep ! (1 ∷ 2 ∷ 3 ∷ []) $
           by ! exits)))))))))))))))))))))))))))))
 
@@ -234,7 +266,15 @@ module _ {M : Type 1} (𝓤 : URA M) (H : Heap 𝓤) (A : Atoms 𝓤) (W : Given
 
 put-block-meets : {M : Type 1} (𝓤 : URA M) (H : Heap 𝓤) (A : Atoms 𝓤) → Given 𝓤 H A → (mem : Memory → SProp 𝓤) (run : Routine → Fun 𝓤) (𝓣 : Tables 𝓤 H)
     → Meets 𝓤 H A put-block.signature (WpFn 𝓤 H (𝓣 .C) (𝓣 .Λ) code.function) (put-block.spec 𝓤 H A mem run)
-put-block-meets 𝓤 H A W mem run 𝓣 = walk-meets 𝓤 H A put-block.ended stayed W (goes-slice 𝓤 H A W 1 0 tt (plain (λ _. T.the-row)), (goes-none 𝓤 H A W 1 (λ _. usize) yes (λ κs x f. refl), (goes-none 𝓤 H A W 1 (λ _. Block) yes (λ κs x f. refl), tt))) (put-block.clauses 𝓤 H A mem run) (WpFn 𝓤 H (𝓣 .C) (𝓣 .Λ) code.function) (WpFn-mono 𝓤 H (W .laws) 𝓣 code.function) (put-block-walks 𝓤 H A W mem run (𝓣 .C) (𝓣 .Λ))
+put-block-meets 𝓤 H A W mem run 𝓣 = walk-meets 𝓤 H A put-block.ended stayed W (
+  goes-slice 𝓤 H A W 1 0 tt (plain (λ _. T.the-row)),
+  (
+    goes-none 𝓤 H A W 1 (λ _. usize) yes
+        (λ κs x f. refl),
+    (goes-none 𝓤 H A W 1 (λ _. Block) yes (λ κs x f. refl), tt),
+  ),
+) (put-block.clauses 𝓤 H A mem run) (WpFn 𝓤 H (𝓣 .C) (𝓣 .Λ) code.function) (WpFn-mono 𝓤 H
+    (W .laws) 𝓣 code.function) (put-block-walks 𝓤 H A W mem run (𝓣 .C) (𝓣 .Λ))
 
 pub put-block-spec : {M : Type 1} → stated.statement M
 unfolding code.routine tablesOf
