@@ -1,13 +1,21 @@
-// The calls for C and Rust: the proved calls over records of plain numbers and byte buffers.
+// The calls for C and Rust: the proved calls over records of plain numbers and lent buffers.
 ghost use mathlib.Core.Path.{_≡_};
 ghost use lib.ListN.{length};
 ghost use Rattle.decoder.specs.Reading.{readAt};
+ghost use Rattle.bus_state.specs.Memory.{held};
+ghost use Rattle.bus_model.specs.Primitives.{newState};
+ghost use Rattle.bus_model.specs.Calls.{startIn, submitIn, collectIn, bufferAfter};
+ghost use Rattle.bus.specs.Left.{left, leaves};
 ghost use Rattle.kettlefrost.specs.Flat.{flatRow, flat, named};
 ghost use Rattle.kettlefrost.specs.Calls.{readAnswer, dataAnswer, lengthWritten, answerNamed, writeAnswer, bufferAfterWrite};
+use bus::SLOTS;
+use bus_state::State;
 use decoder::Cursor;
 use decoder::Reading;
 use encoder::Written;
 use operation::Operation;
+use outcome::Answer;
+use slots::Slot;
 
 // An operation: its code, and its fields in the order of the table; 0 where its kind has no such field. word is AF, or the value
 // of a Configuration; length is DL or n; first to fourth are the one-byte fields.
@@ -277,4 +285,60 @@ pub extern "C" fn kf_write(
         refusal: encoder::number_of(w) as usize,
         length: length_written(w),
     }
+}
+
+// The calls of the bus: each loads the lent slots, calls the bus with the slots by value, and puts back the slots that changed.
+
+#[no_mangle]
+pub extern "C" fn kf_start(slots: &mut [Slot], payload: &[u8], queues: &[u8], count: u32) -> Answer
+    ensures { λ r. ⌜ left r (now (slots .exit)) (now (payload .entry)) (now (queues .entry)) ≡ leaves (startIn (held (newState 0) (now (slots .entry)) (now (payload .entry)) (now (queues .entry))) count) ⌝ }
+{
+    if slots.len() != SLOTS {
+        return bus::no_start();
+    }
+    let a = lent_slots::load(slots);
+    let c = bus::start(a, payload, queues, count);
+    lent_slots::store(slots, bus::slots_started(c));
+    bus::answer_started(c)
+}
+
+#[no_mangle]
+pub extern "C" fn kf_submit(
+    state: State,
+    slots: &mut [Slot],
+    payload: &mut [u8],
+    queues: &mut [u8],
+    node: u32,
+    buffer: &[u8],
+) -> Answer
+    ensures { λ r. ⌜ left r (now (slots .exit)) (now (payload .exit)) (now (queues .exit)) ≡ leaves (submitIn (held state (now (slots .entry)) (now (payload .entry)) (now (queues .entry))) node (now (buffer .entry))) ⌝ }
+{
+    if slots.len() != SLOTS {
+        return bus::wrong_memory(state);
+    }
+    let a = lent_slots::load(slots);
+    let c = bus::submit(state, a, payload, queues, node, buffer);
+    lent_slots::put_block(slots, bus::position_changed(c), bus::block_changed(c));
+    bus::answer_changed(c)
+}
+
+// The queue goes to the front of the caller's buffer.
+#[no_mangle]
+pub extern "C" fn kf_collect(
+    state: State,
+    slots: &[Slot],
+    payload: &[u8],
+    queues: &[u8],
+    node: u32,
+    buffer: &mut [u8],
+) -> Answer
+    ensures left { λ r. ⌜ left r (now (slots .entry)) (now (payload .entry)) (now (queues .entry)) ≡ leaves (collectIn (held state (now (slots .entry)) (now (payload .entry)) (now (queues .entry))) node (length (now (buffer .entry)))) ⌝ }
+    ensures written { λ _. ⌜ now (buffer .exit) ≡ bufferAfter (collectIn (held state (now (slots .entry)) (now (payload .entry)) (now (queues .entry))) node (length (now (buffer .entry))) .reply) (now (buffer .entry)) ⌝ }
+{
+    if slots.len() != SLOTS {
+        return bus::wrong_memory(state);
+    }
+    let a = lent_slots::load(slots);
+    let c = bus::collect(state, a, payload, queues, node, buffer);
+    bus::answer_kept(c)
 }

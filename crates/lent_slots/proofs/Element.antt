@@ -42,12 +42,19 @@ tells = LL.tells T.the-type T′.the-laws
 abbrev pub Slots : RattleType
 Slots = Array T.the-row 32
 
--- the MIR types of a slot, of 32, and of a number of them
+-- and four, the slots of a node
+abbrev pub Block : RattleType
+Block = Array T.the-row 4
+
+-- the MIR types of a slot, of 32, of four, and of a number of them
 abbrev pub SlotTy : Ty
 SlotTy = T′.mir
 
 abbrev pub SlotsTy : Ty
 SlotsTy = lone (Slots .mir)
+
+abbrev pub BlockTy : Ty
+BlockTy = lone (Block .mir)
 
 abbrev pub word : Ty
 word = tyInt w64
@@ -61,6 +68,9 @@ module _ {M : Type 1} {𝓤 : URA M} {H : Heap 𝓤} {A : Atoms 𝓤} (W : Given
 
   pub typed-all : (xs : List Slot) (v : Val) → Is Slots xs (v ∷ []) → Holds (hasTy SlotsTy v) × WT v
   typed-all xs v g = array-lawful 𝓤 H A W T.the-row (LL.lawful T.the-type T′.the-laws 𝓤 H A W) 32 .typed xs _ g .0
+
+  pub typed-block : (xs : List Slot) (v : Val) → Is Block xs (v ∷ []) → Holds (hasTy BlockTy v) × WT v
+  typed-block xs v g = array-lawful 𝓤 H A W T.the-row (LL.lawful T.the-type T′.the-laws 𝓤 H A W) 4 .typed xs _ g .0
 
 pub makes : {M : Type 1} (𝓤 : URA M) (H : Heap 𝓤) (A : Atoms 𝓤) → Makes 𝓤 H A T.the-row (Is T.the-row)
 makes 𝓤 H A = LL.makes T.the-type T′.the-plain 𝓤 H A

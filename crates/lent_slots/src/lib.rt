@@ -1,8 +1,8 @@
 // The lent slots, one by one and all at once. These are for the bus crate above only: each has a requires that its caller must meet.
 ghost use mathlib.Core.Path.{_≡_};
-ghost use Prim.Native.Nat.{_<_};
+ghost use Prim.Native.Nat.{_<_, _+_, _≤_};
 ghost use lib.ListN.{length, getD, set};
-ghost use Rattle.slots.specs.Slots.{freeSlot};
+ghost use Rattle.slots.specs.Slots.{freeSlot, setBlock};
 use slots::Slot;
 
 pub fn get(slots: &[Slot], i: usize) -> Slot
@@ -17,6 +17,17 @@ pub fn put(slots: &mut [Slot], i: usize, s: Slot)
     ensures { λ _. ⌜ now (slots .exit) ≡ set (now (slots .entry)) i s ⌝ }
 {
     slots[i] = s;
+}
+
+// Four slots into the lent ones, from a position on.
+pub fn put_block(slots: &mut [Slot], at: usize, b: [Slot; 4])
+    requires { ⌜ at + 4 ≤ length (now slots) ⌝ }
+    ensures { λ _. ⌜ now (slots .exit) ≡ setBlock (now (slots .entry)) at b ⌝ }
+{
+    slots[at] = b[0];
+    slots[at + 1] = b[1];
+    slots[at + 2] = b[2];
+    slots[at + 3] = b[3];
 }
 
 // The lent slots as an array by value.
