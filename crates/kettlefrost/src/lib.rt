@@ -4,7 +4,8 @@ ghost use lib.ListN.{length};
 ghost use Rattle.decoder.specs.Reading.{readAt};
 ghost use Rattle.bus_state.specs.Memory.{held};
 ghost use Rattle.bus_model.specs.Primitives.{newState};
-ghost use Rattle.bus_model.specs.Calls.{startIn, submitIn, collectIn, bufferAfter};
+ghost use Rattle.bus_model.specs.Calls.{startIn, submitIn, roundIn, collectIn, bufferAfter};
+ghost use Rattle.arbitration.specs.Injections.{injectionFrom};
 ghost use Rattle.bus.specs.Left.{left, leaves};
 ghost use Rattle.kettlefrost.specs.Flat.{flatRow, flat, named};
 ghost use Rattle.kettlefrost.specs.Calls.{readAnswer, dataAnswer, lengthWritten, answerNamed, writeAnswer, bufferAfterWrite};
@@ -318,6 +319,27 @@ pub extern "C" fn kf_submit(
     }
     let a = lent_slots::load(slots);
     let c = bus::submit(state, a, payload, queues, node, buffer);
+    lent_slots::put_block(slots, bus::position_changed(c), bus::block_changed(c));
+    bus::answer_changed(c)
+}
+
+#[no_mangle]
+pub extern "C" fn kf_round(
+    state: State,
+    slots: &mut [Slot],
+    payload: &mut [u8],
+    queues: &mut [u8],
+    injected: u32,
+    code: u32,
+    detector: u32,
+) -> Answer
+    ensures { λ r. ⌜ left r (now (slots .exit)) (now (payload .exit)) (now (queues .exit)) ≡ leaves (roundIn (held state (now (slots .entry)) (now (payload .entry)) (now (queues .entry))) (injectionFrom injected code detector)) ⌝ }
+{
+    if slots.len() != SLOTS {
+        return bus::wrong_memory(state);
+    }
+    let a = lent_slots::load(slots);
+    let c = bus::round(state, a, payload, queues, injected, code, detector);
     lent_slots::put_block(slots, bus::position_changed(c), bus::block_changed(c));
     bus::answer_changed(c)
 }
