@@ -38,15 +38,15 @@ isOff d = eqb (d .status) busOff
 abbrev pub discards : NodeState → Bool
 discards d = eqb (d .behaviour) discardAndNotify
 
--- one where a frame is the node's own
+-- 1 where the winner is the node's own
 abbrev pub own : Bool → ℕ
 own mine = cond mine 1 0
 
--- the frames that a node has pending besides the winner
+-- how many frames a node has pending besides the winner
 abbrev pub losers : NodeState → Bool → ℕ
 losers d mine = d .pending - own mine
 
--- the frames that a node has no more where it discards, the winner among them
+-- how many frames a node that discards has no more, the winner among them
 abbrev pub discarded : NodeState → ℕ
 discarded d = cond (discards d) (d .pending) 0
 
@@ -90,11 +90,12 @@ owedTo e d j owner position a bytes =
 
 -- ---- their number
 
+-- of the news, by whether the winner is the node's own and whether the node is Bus-Off
 abbrev pub newsLength : Injection → Bool → Bool → ℕ → ℕ
 newsLength NoError mine off size = cond mine 12 (cond off 0 size)
 newsLength (Injected code detector) mine off size = cond off 0 15
 
--- size is the length of the winner's Transmit
+-- of all that a node is owed; size is the length of the winner's Transmit
 unfoldable pub owedLength : Injection → NodeState → Bool → ℕ → ℕ
 owedLength e d mine size = newsLength e mine (isOff d) size + 12 * toldCount d mine
 

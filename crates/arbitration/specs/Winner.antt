@@ -44,5 +44,6 @@ unfoldable pub bestFrom : List NodeState → List Slot → ℕ → ℕ → Winne
 bestFrom nodes a j zero w = w
 bestFrom nodes a j (suc n) w = bestFrom nodes a (suc j) n (bestOf a j 0 (entryOf nodes j .pending) w)
 
+-- the first of all pending frames
 unfoldable pub bestIn : State → List Slot → Winner
 bestIn s a = bestFrom (s .nodes) a 0 (s .count) Nobody

@@ -32,6 +32,7 @@ pub enum Injection {
     Injected { code: u32, detector: u32 },
 }
 
+// From the numbers of a call: 0 for no error, any other for one.
 pub fn injection_of(injected: u32, code: u32, detector: u32) -> Injection
     ensures { λ r. ⌜ injectionOf r ≡ injectionFrom injected code detector ⌝ }
 {
@@ -116,6 +117,7 @@ fn goes_before(
             & ((owner < than_owner) | ((owner == than_owner) & (position < than_position))))
 }
 
+// The first of the best so far and one more frame.
 fn better(best: Winner, rank: u32, owner: usize, position: usize) -> Winner
     ensures { λ r. ⌜ r ≡ better best rank owner position ⌝ }
 {
@@ -230,7 +232,7 @@ fn discards(d: NodeState) -> bool
     d.behaviour as u32 == operation::DISCARD_AND_NOTIFY
 }
 
-// The frames that a node has no more where it discards, the winner among them.
+// How many frames a node that discards has no more, the winner among them.
 fn discarded(d: NodeState) -> u8
     ensures { λ r. ⌜ r ≡ discarded d ⌝ }
 {
@@ -262,6 +264,7 @@ fn stay_count(d: NodeState, mine: bool) -> u8
     d.pending - mine as u8
 }
 
+// How many bytes a node is told of the winner.
 fn news_length(e: Injection, mine: bool, off: bool, size: usize) -> usize
     ensures { λ r. ⌜ r ≡ newsLength e mine off size ⌝ }
 {
@@ -287,6 +290,7 @@ fn news_length(e: Injection, mine: bool, off: bool, size: usize) -> usize
     }
 }
 
+// How many bytes a node is owed in all.
 fn owed_length(d: NodeState, mine: bool, e: Injection, size: usize) -> usize
     requires { ⌜ (own mine ≤ d .pending) × (size ≤ 2070) ⌝ }
     ensures { λ r. ⌜ r ≡ owedLength e d mine size ⌝ }
@@ -451,6 +455,7 @@ fn tell(
     );
 }
 
+// A node's entry after the round.
 fn entry_after(d: NodeState, mine: bool, e: Injection, size: usize) -> NodeState
     requires { ⌜ (own mine ≤ d .pending) × (size ≤ 2070) × (d .fill + owedLength e d mine size ≤ 4096) ⌝ }
     ensures { λ r. ⌜ r ≡ entryAfter e d mine size ⌝ }
