@@ -20,7 +20,9 @@ use Rattle.decoder.proofs.Streams.{front-nil, unroll}
 use Rattle.plain_bus.specs.Refusal.{RegisterRefusal, registerFull, registerDiffers}
 use Rattle.plain_bus.specs.Register.{Register, Update, updated, rejected, updates, enterItem, readItem}
 use Rattle.open_frames.specs.Kept.{openIn}
-use Rattle.open_frames.specs.Steps.{given, stepOf}
+use Rattle.open_frames.specs.Steps.{itemStep, given, stepOf}
+use Rattle.open_frames.specs.declared.Call.{Call}
+use Rattle.open_frames.specs.declared.Call.the-variants as calls
 use Rattle.open_frames.specs.declared.Step.{Step}
 use Rattle.open_frames.specs.declared.Verdict.{Verdict}
 use Rattle.open_frames.specs.declared.Verdict.the-variants.{Done, Full, Differs}
@@ -62,10 +64,10 @@ nearer s at e = rw e at (go (front (drop at s)) (ahead (drop at s)))
 module _ (step : Register → Item → Update) where
   abbrev pub onward : List ℕ → Register → Reading → Update
   onward s r AtEnd = updated r
-  onward s r (Faulty number next) = updates step (itemsOf (drop (next .at) s)) (step r (fault number []))
+  onward s r (Faulty number next) = updates step (itemsOf (drop (next .at) s)) (updated r)
   onward s r (Read op next) = updates step (itemsOf (drop (next .at) s)) (step r (operation op []))
 
-  pub turn : ((r : Register) (number : ℕ) (bytes : List ℕ) → step r (fault number bytes) ≡ step r (fault number []))
+  turn : ((r : Register) (number : ℕ) (bytes : List ℕ) → step r (fault number bytes) ≡ updated r)
       → ((r : Register) (op : Operation) (bytes : List ℕ) → step r (operation op bytes) ≡ step r (operation op []))
       → (s : List ℕ) (at : ℕ) (r : Register) {x : Reading} → readAt s at ≡ x
       → updates step (itemsOf (drop at s)) (updated r) ≡ onward s r x
@@ -102,38 +104,33 @@ module _ (step : Register → Item → Update) where
   goes-on is s v e = ap (λ (w : Verdict). updates step is (given w (s .register))) (sym v) ∙ ap (updates step is) e
 
 -- the bytes of an item are not looked at
-enter-fault : (r : Register) (number : ℕ) (bytes : List ℕ) → enterItem r (fault number bytes) ≡ enterItem r (fault number [])
+enter-blind : (r : Register) (op : Operation) (bytes : List ℕ) → enterItem r (operation op bytes) ≡ enterItem r (operation op [])
 unfolding enterItem
-enter-fault r number bytes = refl
+enter-blind r (FormatError n) bytes = refl
+enter-blind r (CanTransmit id ide rtr dl) bytes = refl
+enter-blind r (FdTransmit id ide brs esi dl) bytes = refl
+enter-blind r (XlTransmit id ide sec sdt vcid af dl) bytes = refl
+enter-blind r (Confirm id) bytes = refl
+enter-blind r (ArbitrationLost id) bytes = refl
+enter-blind r (BusError id code flag sender) bytes = refl
+enter-blind r (Configuration kind value) bytes = refl
+enter-blind r (Status status) bytes = refl
+enter-blind r Wakeup bytes = refl
 
-enter-operation : (r : Register) (op : Operation) (bytes : List ℕ) → enterItem r (operation op bytes) ≡ enterItem r (operation op [])
-unfolding enterItem
-enter-operation r (FormatError n) bytes = refl
-enter-operation r (CanTransmit id ide rtr dl) bytes = refl
-enter-operation r (FdTransmit id ide brs esi dl) bytes = refl
-enter-operation r (XlTransmit id ide sec sdt vcid af dl) bytes = refl
-enter-operation r (Confirm id) bytes = refl
-enter-operation r (ArbitrationLost id) bytes = refl
-enter-operation r (BusError id code flag sender) bytes = refl
-enter-operation r (Configuration kind value) bytes = refl
-enter-operation r (Status status) bytes = refl
-enter-operation r Wakeup bytes = refl
-
-read-fault : (r : Register) (number : ℕ) (bytes : List ℕ) → readItem r (fault number bytes) ≡ readItem r (fault number [])
+blind : (call : Call) (r : Register) (op : Operation) (bytes : List ℕ) → itemStep call r (operation op bytes) ≡ itemStep call r (operation op [])
 unfolding readItem
-read-fault r number bytes = refl
+blind calls.Enter r op bytes = enter-blind r op bytes
+blind calls.Read r op bytes = refl
 
-read-operation : (r : Register) (op : Operation) (bytes : List ℕ) → readItem r (operation op bytes) ≡ readItem r (operation op [])
-unfolding readItem
-read-operation r op bytes = refl
+-- a fault changes nothing
+passes : (call : Call) (r : Register) (number : ℕ) (bytes : List ℕ) → itemStep call r (fault number bytes) ≡ updated r
+unfolding enterItem readItem
+passes calls.Enter r number bytes = refl
+passes calls.Read r number bytes = refl
 
-pub enter-turn : (s : List ℕ) (at : ℕ) (r : Register) {x : Reading} → readAt s at ≡ x
-    → updates enterItem (itemsOf (drop at s)) (updated r) ≡ onward enterItem s r x
-enter-turn = turn enterItem enter-fault enter-operation
-
-pub read-turn : (s : List ℕ) (at : ℕ) (r : Register) {x : Reading} → readAt s at ≡ x
-    → updates readItem (itemsOf (drop at s)) (updated r) ≡ onward readItem s r x
-read-turn = turn readItem read-fault read-operation
+pub turn-of : (call : Call) (s : List ℕ) (at : ℕ) (r : Register) {x : Reading} → readAt s at ≡ x
+    → updates (itemStep call) (itemsOf (drop at s)) (updated r) ≡ onward (itemStep call) s r x
+turn-of call = turn (itemStep call) (passes call) (blind call)
 
 pub enter-kind : (r : Register) {op kind : Operation} → op ≡ kind → enterItem r (operation kind []) ≡ enterItem r (operation op [])
 enter-kind r e = sym (ap (λ (o : Operation). enterItem r (operation o [])) e)

@@ -5,13 +5,21 @@ use mathlib.Core.List.{List, [], _∷_, _++_}
 use mathlib.Core.Bool.{cond}
 use lib.Dec.{eqb}
 use lib.ListN.{take, drop}
+use Rattle.decoder.specs.Stream.{Item}
 use Rattle.plain_bus.specs.Refusal.{registerFull, registerDiffers}
 use Rattle.plain_bus.specs.Register as plain
 use Rattle.open_frames.specs.Kept.{openIn}
+use Rattle.open_frames.specs.declared.Call.{Call}
+use Rattle.open_frames.specs.declared.Call.the-variants.{Enter, Read}
 use Rattle.open_frames.specs.declared.Register.{Register}
 use Rattle.open_frames.specs.declared.Step.{Step}
 use Rattle.open_frames.specs.declared.Verdict.{Verdict}
 use Rattle.open_frames.specs.declared.Verdict.the-variants.{Done, Full, Differs}
+
+-- the step of each call
+abbrev pub itemStep : Call → plain.Register → Item → plain.Update
+itemStep Enter = plain.enterItem
+itemStep Read = plain.readItem
 
 abbrev pub given : Verdict → Register → plain.Update
 given Done r = plain.updated (openIn r)

@@ -7,7 +7,7 @@ ghost use Rattle.decoder.specs.Stream.{operation, itemsOf};
 ghost use Rattle.plain_bus.specs.Closing.{closes};
 ghost use Rattle.plain_bus.specs.Register.{newRegister, validRegister, updated, updates, openId, noteStatus, enterItem, enter, closeId, readItem, read};
 ghost use Rattle.open_frames.specs.Kept.{openIn, flat, answered};
-ghost use Rattle.open_frames.specs.Steps.{stepOf, done, placeOf, withoutPlace};
+ghost use Rattle.open_frames.specs.Steps.{itemStep, stepOf, done, placeOf, withoutPlace};
 use decoder::Cursor;
 use decoder::Reading;
 use operation::Operation;
@@ -26,6 +26,12 @@ pub struct Register {
 pub struct RegisterAnswer {
     pub number: u32,
     pub register: Register,
+}
+
+// The two calls that take a buffer.
+enum Call {
+    Enter,
+    Read,
 }
 
 enum Verdict {
@@ -320,33 +326,21 @@ fn read_operation(register: Register, op: Operation) -> Step
     }
 }
 
-fn enter_items(register: Register, buffer: &[u8]) -> Step
+fn apply(call: Call, register: Register, op: Operation) -> Step
     requires { ⌜ register .count ≤ 345 ⌝ }
-    ensures step { λ r. ⌜ stepOf r ≡ updates enterItem (itemsOf (now (buffer .entry))) (updated (openIn register)) ⌝ }
+    ensures step { λ r. ⌜ stepOf r ≡ itemStep call (openIn register) (operation op []) ⌝ }
     ensures within { λ r. ⌜ r .register .count ≤ 345 ⌝ }
 {
-    let mut kept = register;
-    let mut cursor = Cursor { at: 0 };
-    loop {
-        match cursor.read(buffer) {
-            Reading::AtEnd => return unchanged(kept),
-            Reading::Faulty { number: _, next } => cursor = next,
-            Reading::Read { op, next } => {
-                let step = enter_operation(kept, op);
-                let verdict = step.verdict;
-                let Verdict::Done = verdict else {
-                    return step;
-                };
-                kept = step.register;
-                cursor = next;
-            }
-        }
+    match call {
+        Call::Enter => enter_operation(register, op),
+        Call::Read => read_operation(register, op),
     }
 }
 
-fn read_items(register: Register, buffer: &[u8]) -> Step
+// A step for each operation of a buffer, until one is refused. A fault changes nothing.
+fn apply_all(call: Call, register: Register, buffer: &[u8]) -> Step
     requires { ⌜ register .count ≤ 345 ⌝ }
-    ensures step { λ r. ⌜ stepOf r ≡ updates readItem (itemsOf (now (buffer .entry))) (updated (openIn register)) ⌝ }
+    ensures step { λ r. ⌜ stepOf r ≡ updates (itemStep call) (itemsOf (now (buffer .entry))) (updated (openIn register)) ⌝ }
     ensures within { λ r. ⌜ r .register .count ≤ 345 ⌝ }
 {
     let mut kept = register;
@@ -356,12 +350,12 @@ fn read_items(register: Register, buffer: &[u8]) -> Step
             Reading::AtEnd => return unchanged(kept),
             Reading::Faulty { number: _, next } => cursor = next,
             Reading::Read { op, next } => {
-                let step = read_operation(kept, op);
-                let verdict = step.verdict;
+                let after = apply(call, kept, op);
+                let verdict = after.verdict;
                 let Verdict::Done = verdict else {
-                    return step;
+                    return after;
                 };
-                kept = step.register;
+                kept = after.register;
                 cursor = next;
             }
         }
@@ -422,7 +416,7 @@ pub fn enter(register: Register, buffer: &[u8]) -> RegisterAnswer
             register,
         };
     }
-    answer(register, enter_items(register, buffer))
+    answer(register, apply_all(Call::Enter, register, buffer))
 }
 
 // Reads a buffer that was collected.
@@ -435,5 +429,5 @@ pub fn read(register: Register, buffer: &[u8]) -> RegisterAnswer
             register,
         };
     }
-    answer(register, read_items(register, buffer))
+    answer(register, apply_all(Call::Read, register, buffer))
 }

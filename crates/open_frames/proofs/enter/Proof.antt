@@ -12,8 +12,8 @@ returns : tie.Need-returns
 unfolding enter
 returns c = rw (sym (c .before .is-valid .ensures) ∙ not-true _ (c .if1 .taken))
 
-enter-items-requires : tie.Need-enter-items-requires
-enter-items-requires c κs =
+apply-all-requires : tie.Need-apply-all-requires
+apply-all-requires c κs =
     let v = c .before in
     let s = v .before .before in
     let r = s .args .register in
@@ -24,9 +24,9 @@ unfolding enter
 returns-2 c =
     let n = c .before in
     let v = n .before .before in
-    rw (sym (v .is-valid .ensures) ∙ not-false _ (n .before .if1 .left)) (c .answer .ensures ∙ ap (answered (v .before .before .args .register)) (n .enter-items .ensures .0))
+    rw (sym (v .is-valid .ensures) ∙ not-false _ (n .before .if1 .left)) (c .answer .ensures ∙ ap (answered (v .before .before .args .register)) (n .apply-all .ensures .0))
 
 pub enter-spec : {M : Type 1} → statement M
 enter-spec =
     tie.close
-    (tie.spec (λ c κs. search needs) returns enter-items-requires (λ c κs. search needs) returns-2)
+    (tie.spec (λ c κs. search needs) returns apply-all-requires (λ c κs. search needs) returns-2)

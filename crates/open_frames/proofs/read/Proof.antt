@@ -12,8 +12,8 @@ returns : tie.Need-returns
 unfolding read
 returns c = rw (sym (c .before .is-valid .ensures) ∙ not-true _ (c .if1 .taken))
 
-read-items-requires : tie.Need-read-items-requires
-read-items-requires c κs =
+apply-all-requires : tie.Need-apply-all-requires
+apply-all-requires c κs =
     let v = c .before in
     let s = v .before .before in
     let r = s .args .register in
@@ -24,7 +24,7 @@ unfolding read
 returns-2 c =
     let n = c .before in
     let v = n .before .before in
-    rw (sym (v .is-valid .ensures) ∙ not-false _ (n .before .if1 .left)) (c .answer .ensures ∙ ap (answered (v .before .before .args .register)) (n .read-items .ensures .0))
+    rw (sym (v .is-valid .ensures) ∙ not-false _ (n .before .if1 .left)) (c .answer .ensures ∙ ap (answered (v .before .before .args .register)) (n .apply-all .ensures .0))
 
 pub read-spec : {M : Type 1} → statement M
-read-spec = tie.close (tie.spec (λ c κs. search needs) returns read-items-requires (λ c κs. search needs) returns-2)
+read-spec = tie.close (tie.spec (λ c κs. search needs) returns apply-all-requires (λ c κs. search needs) returns-2)
