@@ -1,4 +1,6 @@
 // The calls for C and Rust: the proved calls over records of plain numbers and lent buffers.
+mod register;
+
 ghost use mathlib.Core.Path.{_≡_};
 ghost use lib.ListN.{length};
 ghost use Rattle.decoder.specs.Reading.{readAt};

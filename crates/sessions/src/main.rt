@@ -6,7 +6,24 @@ use slots::Slot;
 
 // W1: ID 15, data AA BB.
 const W1: [u8; 18] = [
-    0x10, 0, 0, 0, 0x12, 0, 0, 0, 0x0F, 0, 0, 0, 0, 0, 2, 0, 0xAA, 0xBB,
+    0x10,
+    0,
+    0,
+    0,
+    0x12,
+    0,
+    0,
+    0,
+    0x0F,
+    0,
+    0,
+    0,
+    0,
+    0,
+    2,
+    0,
+    0xAA,
+    0xBB,
 ];
 
 // ID 16, no data.
@@ -57,14 +74,13 @@ fn round(k: Kept, payload: &mut [u8], queues: &mut [u8]) -> Kept {
 fn write_queue(k: Kept, payload: &[u8], queues: &[u8], node: u32) -> Kept {
     let mut buffer = io::buffer();
     let slots = k.slots;
-    let h = owned_slots::collect(k.state, slots, payload, queues, node, &mut buffer);
-    let n = h.answer.length as usize;
+    let answer = owned_slots::collect(k.state, slots, payload, queues, node, &mut buffer);
+    let n = answer.length as usize;
     if n <= 4096 {
         Line::new().hex(&buffer[..n]).end();
     }
-    let slots = h.slots;
     Kept {
-        state: h.answer.state,
+        state: answer.state,
         slots,
     }
 }
