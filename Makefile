@@ -8,7 +8,8 @@ N = 20000000
 SEED = 11898
 
 run:
-	rt check decode
+	rt check sessions decode
+	./target/bin/sessions
 	./target/bin/decode samples/mixed.bin
 
 test:

@@ -2,6 +2,7 @@
 // hexadecimal, a line a node.
 use bus_state::State;
 use lines::Line;
+use owned_slots::Owned;
 use slots::Slot;
 
 // W1: ID 15, data AA BB.
@@ -40,34 +41,29 @@ struct Kept {
     slots: [Slot; 32],
 }
 
-fn start(payload: &mut [u8], queues: &mut [u8]) -> Kept {
+fn keep(h: Owned) -> Kept {
+    let answer = h.answer;
+    let state = answer.state;
+    let slots = h.slots;
+    Kept { state, slots }
+}
+
+fn start(payload: &[u8], queues: &[u8]) -> Kept {
     let slots = [slots::free(); 32];
     let h = owned_slots::start(slots, payload, queues, NODES);
-    let slots = h.slots;
-    Kept {
-        state: h.answer.state,
-        slots,
-    }
+    keep(h)
 }
 
 fn submit(k: Kept, payload: &mut [u8], queues: &mut [u8], node: u32, buffer: &[u8]) -> Kept {
     let slots = k.slots;
     let h = owned_slots::submit(k.state, slots, payload, queues, node, buffer);
-    let slots = h.slots;
-    Kept {
-        state: h.answer.state,
-        slots,
-    }
+    keep(h)
 }
 
 fn round(k: Kept, payload: &mut [u8], queues: &mut [u8]) -> Kept {
     let slots = k.slots;
     let h = owned_slots::round(k.state, slots, payload, queues, 0, 0, 0);
-    let slots = h.slots;
-    Kept {
-        state: h.answer.state,
-        slots,
-    }
+    keep(h)
 }
 
 // Collects a node's queue and writes it.
@@ -79,10 +75,8 @@ fn write_queue(k: Kept, payload: &[u8], queues: &[u8], node: u32) -> Kept {
     if n <= 4096 {
         Line::new().hex(&buffer[..n]).end();
     }
-    Kept {
-        state: answer.state,
-        slots,
-    }
+    let state = answer.state;
+    Kept { state, slots }
 }
 
 fn write_queues(k: Kept, payload: &[u8], queues: &[u8]) {
@@ -92,28 +86,30 @@ fn write_queues(k: Kept, payload: &[u8], queues: &[u8]) {
 }
 
 // Node 0 submits W1, node 1, which discards, ID 16; one round.
-fn play_w5(payload: &mut [u8], queues: &mut [u8]) {
-    let k = start(payload, queues);
-    let k = submit(k, payload, queues, 0, &W1);
-    let k = submit(k, payload, queues, 1, &DISCARD);
-    let k = submit(k, payload, queues, 1, &ID_16);
-    let k = round(k, payload, queues);
-    write_queues(k, payload, queues);
+fn play_w5() {
+    let mut payload = [0u8; 65536];
+    let mut queues = [0u8; 32768];
+    let k = start(&payload, &queues);
+    let k = submit(k, &mut payload, &mut queues, 0, &W1);
+    let k = submit(k, &mut payload, &mut queues, 1, &DISCARD);
+    let k = submit(k, &mut payload, &mut queues, 1, &ID_16);
+    let k = round(k, &mut payload, &mut queues);
+    write_queues(k, &payload, &queues);
 }
 
 // The same with node 1 buffering, and a second round.
-fn play_w6(payload: &mut [u8], queues: &mut [u8]) {
-    let k = start(payload, queues);
-    let k = submit(k, payload, queues, 0, &W1);
-    let k = submit(k, payload, queues, 1, &ID_16);
-    let k = round(k, payload, queues);
-    let k = round(k, payload, queues);
-    write_queues(k, payload, queues);
+fn play_w6() {
+    let mut payload = [0u8; 65536];
+    let mut queues = [0u8; 32768];
+    let k = start(&payload, &queues);
+    let k = submit(k, &mut payload, &mut queues, 0, &W1);
+    let k = submit(k, &mut payload, &mut queues, 1, &ID_16);
+    let k = round(k, &mut payload, &mut queues);
+    let k = round(k, &mut payload, &mut queues);
+    write_queues(k, &payload, &queues);
 }
 
 fn main() {
-    let mut payload = [0u8; 65536];
-    let mut queues = [0u8; 32768];
-    play_w5(&mut payload, &mut queues);
-    play_w6(&mut payload, &mut queues);
+    play_w5();
+    play_w6();
 }
