@@ -1,4 +1,4 @@
-# make run        decodes the sample stream
+# make run        plays the sessions W5 and W6, then decodes the sample stream
 # make test       the gate: every proof from nothing, then the tests beside them
 # make bench      throughput of the proved library against the second program
 # make soak N=..  N calls of the bus in random sessions, compared; SEED=.. for other ones
