@@ -31,6 +31,7 @@ pub mod plants;
 pub mod random;
 pub mod refusal;
 pub mod register;
+pub mod registers;
 pub mod session;
 pub mod session_tally;
 pub mod tally;

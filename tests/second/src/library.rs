@@ -2,9 +2,12 @@
 
 #[cfg(feature = "bus")]
 mod bus;
+#[cfg(feature = "bus")]
+pub mod register;
 
 use crate::codec::{self, Operation};
 use crate::lent::State;
+use crate::register::REGISTER_CAPACITY;
 
 #[cfg(feature = "bus")]
 pub use bus::{collect, round, start, submit};
@@ -65,8 +68,29 @@ pub struct KfAnswer {
     pub state: State,
 }
 
+/// The first `count` of `ids` are open, oldest first; `off` is not 0 where the
+/// node is Bus-Off.
+#[repr(C)]
+#[derive(Clone, Copy, Debug, PartialEq, Eq)]
+pub struct KfRegister {
+    pub ids: [u32; REGISTER_CAPACITY],
+    pub count: u32,
+    pub off: u32,
+}
+
+/// What a call of the register answers: `number` is 0 or the refusal, and the
+/// register after the call.
+#[repr(C)]
+#[derive(Clone, Copy, Debug, PartialEq, Eq)]
+pub struct KfRegisterAnswer {
+    pub number: u32,
+    pub register: KfRegister,
+}
+
 const _: () = assert!(size_of::<KfOperation>() == 20 && size_of::<KfReading>() == 40);
 const _: () = assert!(size_of::<KfAnswer>() == 188);
+// Numbers of four bytes and nothing between them: equal is equal byte for byte.
+const _: () = assert!(size_of::<KfRegister>() == 1388 && size_of::<KfRegisterAnswer>() == 1392);
 
 mod exported {
     use super::{KfOperation, KfPart, KfReading, KfWritten};
