@@ -1,16 +1,19 @@
 //! An independent second program of the simulated CAN bus: its own codec, plain
-//! bus, bus over lent memory and register, and the means to compare codec and
-//! bus with the proved library, call by call.
+//! bus, bus over lent memory and register, and the means to compare codec, bus
+//! and register with the proved library, call by call.
 //!
 //! The folder of `libkettlefrost.a` is named by `KETTLEFROST_LIB`; then
 //!
 //! - `cargo test` holds codec, buses and register against W1 to W10 and the easy
 //!   errors, and demand 3 against random sessions,
 //! - `cargo run --release --bin compare` compares the two codecs on generated cases,
+//! - `cargo run --release --bin registers` compares the two registers on drawn calls,
 //! - `cargo run --release --bin sessions` compares the buses on random sessions,
 //! - `cargo run --release --bin bench` measures both sides against each other.
 //!
-//! With the feature `bus` the library's calls of the bus take part in the last two.
+//! With the feature `bus` the library's calls of the bus and of the register take
+//! part in the last three; without it the second program's register stands in for
+//! the library's.
 
 pub mod bus;
 pub mod bus_cases;
@@ -31,6 +34,9 @@ pub mod plants;
 pub mod random;
 pub mod refusal;
 pub mod register;
+pub mod register_cases;
+pub mod register_comparison;
+pub mod register_plants;
 pub mod registers;
 pub mod session;
 pub mod session_tally;
