@@ -10,6 +10,17 @@ use crate::memory::{Call, Memory, LARGEST_ROOM};
 use crate::random::Random;
 use crate::session;
 
+/// What a session is made of.
+#[derive(Clone, Copy, Debug, PartialEq, Eq)]
+pub enum Course {
+    /// Calls on states made up too, and on memory that others wrote to.
+    Crafted,
+    /// Only calls that get state and lent memory as the last one left them.
+    Listed,
+    /// The same, of a node that leaves its queue to closings.
+    Hoarding,
+}
+
 /// One thing to do in a session.
 pub enum Case {
     Call,
@@ -50,6 +61,16 @@ impl Cases {
         self.calls.start() as u32
     }
 
+    /// What a session on this bus is made of.
+    pub fn course(&mut self, bus: &Bus) -> Course {
+        self.calls.draw_hoarder(bus);
+        match self.random.below(32) {
+            0..16 => Course::Crafted,
+            16..31 => Course::Listed,
+            _ => Course::Hoarding,
+        }
+    }
+
     /// A round number for the next session.
     pub fn round_number(&mut self) -> u32 {
         self.calls.round_number()
@@ -73,7 +94,19 @@ impl Cases {
 
     /// A call other than start.
     pub fn call(&mut self, bus: &Bus) -> Call {
-        match self.calls.call(bus) {
+        let call = self.calls.call(bus);
+        self.widened(call, bus)
+    }
+
+    /// A call of a session in which one node hoards.
+    pub fn hoarding_call(&mut self, bus: &Bus) -> Call {
+        let call = self.calls.hoarding_call(bus);
+        self.widened(call, bus)
+    }
+
+    /// A call with numbers as wide as the bus takes them.
+    fn widened(&mut self, call: session::Call, bus: &Bus) -> Call {
+        match call {
             session::Call::Submit { node, buffer } => {
                 Call::Submit { node: self.node(node, bus), buffer }
             }

@@ -1,15 +1,18 @@
 //! The comparison of buses over state and lent memory: after each call answer,
-//! state and every lent byte, and the plain bus's answer and view besides.
+//! state and every lent byte, the plain bus's answer and view besides, and what
+//! the registers of the nodes have open.
 
 use std::fmt;
 
 use crate::bus::{Bus, Round};
-use crate::bus_cases::{Case, Cases};
+use crate::bus_cases::{Case, Cases, Course};
 use crate::bus_tally::{BusTally, Part, Size};
 use crate::invalid::{Breaker, Invalid};
 use crate::lent::{Slot, State};
 use crate::library::KfAnswer;
 use crate::memory::{Call, Calls, Memory, Sizes};
+use crate::node_registers::NodeRegisters;
+use crate::registers::Registers;
 use crate::session::{self, Done};
 
 /// Calls in a session, unless there are enough before.
@@ -68,16 +71,22 @@ pub struct Comparison {
     plain: Bus,
     /// The memory before a call that has to leave it alone.
     kept: Memory,
+    pub registers: NodeRegisters,
     pub tally: BusTally,
 }
 
 impl Comparison {
-    pub fn new(sides: Vec<(&'static str, Box<dyn Calls>)>) -> Comparison {
+    /// The registers go by the last side.
+    pub fn new(
+        sides: Vec<(&'static str, Box<dyn Calls>)>,
+        registers: Box<dyn Registers>,
+    ) -> Comparison {
         let side = |(name, calls)| Side { name, calls, memory: Memory::new() };
         Comparison {
             sides: sides.into_iter().map(side).collect(),
             plain: Bus::start(2).expect("2 nodes"),
             kept: Memory::new(),
+            registers: NodeRegisters::new(registers),
             tally: BusTally::new(),
         }
     }
@@ -89,26 +98,47 @@ impl Comparison {
         if !self.start(count)? {
             return Ok(());
         }
-        let round = cases.round_number();
-        self.change(|memory, plain| {
-            cases.change_unasked(memory);
-            (memory.state.round, plain.round_number) = (round, round);
-        });
+        let course = cases.course(&self.plain);
+        if course == Course::Crafted {
+            let round = cases.round_number();
+            self.change(|memory, plain| {
+                cases.change_unasked(memory);
+                (memory.state.round, plain.round_number) = (round, round);
+            });
+        } else {
+            self.start_registers(count)?;
+        }
         let end = self.tally.calls() + calls;
         for _ in 0..SESSION_CALLS {
             if self.tally.calls() >= end {
                 break;
             }
-            self.case(cases)?;
+            match course {
+                Course::Crafted => self.case(cases)?,
+                Course::Listed => self.listed(&cases.call(&self.plain))?,
+                Course::Hoarding => self.listed(&cases.hoarding_call(&self.plain))?,
+            }
         }
         Ok(())
+    }
+
+    fn start_registers(&mut self, count: u32) -> Compared {
+        let side = self.sides.last().expect("there is a side");
+        side.agrees(&Call::Start { count }, self.registers.start(&side.memory))
+    }
+
+    /// A call of a session with registers.
+    fn listed(&mut self, call: &Call) -> Compared {
+        let answer = self.call(call)?;
+        let side = self.sides.last().expect("there is a side");
+        side.agrees(call, self.registers.after(&side.memory, call, &answer))
     }
 
     fn case(&mut self, cases: &mut Cases) -> Compared {
         match cases.case() {
             Case::Call => {
                 let call = cases.call(&self.plain);
-                self.call(&call)
+                self.call(&call).map(drop)
             }
             Case::RefusedStart { count } => self.start(count).map(drop),
             Case::WrongSize { part, size, unstarted } => {
@@ -230,8 +260,8 @@ impl Comparison {
         }
     }
 
-    /// A call with everything as it should be.
-    fn call(&mut self, call: &Call) -> Compared {
+    /// A call with everything as it should be; gives the last side's answer.
+    fn call(&mut self, call: &Call) -> Result<KfAnswer, Box<Difference>> {
         let played = call.plain().expect("starts are played elsewhere");
         let before = self.plain.clone();
         let answer = session::answer(&mut self.plain, &played);
@@ -239,19 +269,23 @@ impl Comparison {
         let first = &self.sides[0].memory;
         if matches!(answer, Err(_) | Ok(Done::Round(Round::Idle))) {
             let expected = expected(&answer, first.state);
-            return self.unchanged(call, Sizes::RIGHT, &expected);
+            self.unchanged(call, Sizes::RIGHT, &expected)?;
+            return Ok(expected);
         }
         self.kept.buffer.copy_from_slice(&first.buffer);
         if let Ok(Done::Collected(bytes)) = &answer {
             self.kept.buffer[..bytes.len()].copy_from_slice(bytes);
         }
+        let mut last = None;
         for side in &mut self.sides {
             let given = side.play(Sizes::RIGHT, call);
             side.answers(call, &expected(&answer, given.state), &given)?;
             side.agrees(call, side.memory.buffer_difference(&self.kept))?;
             side.memory.state = given.state;
+            last = Some(given);
         }
-        self.agree(call)
+        self.agree(call)?;
+        Ok(last.expect("there is a side"))
     }
 
     /// Holds that all sides have the same state and the same bytes, and the

@@ -19,13 +19,15 @@ pub struct Calls {
     /// How many in a hundred calls are rounds, and how many collect.
     rounds: usize,
     collects: usize,
+    /// The node that hoards, where one does.
+    hoarder: usize,
 }
 
 impl Calls {
     pub fn new(seed: u64) -> Calls {
         let random = Random::new(seed);
         let generator = Generator::new(!seed);
-        Calls { random, generator, ids: [0; 3], rounds: 0, collects: 0 }
+        Calls { random, generator, ids: [0; 3], rounds: 0, collects: 0, hoarder: 0 }
     }
 
     /// A node count for the next session, at times one that is refused.
@@ -46,6 +48,58 @@ impl Calls {
             0 => u32::MAX - self.random.below(32) as u32,
             _ => 0,
         }
+    }
+
+    /// Draws the node that hoards in this session.
+    pub fn draw_hoarder(&mut self, bus: &Bus) {
+        self.hoarder = self.random.below(bus.nodes.len());
+    }
+
+    /// A call of a session in which one node leaves its queue to closings, so
+    /// that as many IDs are open as can be: 341 closings and four frames. The
+    /// other nodes are Bus-Off, so that nothing else is queued.
+    pub fn hoarding_call(&mut self, bus: &Bus) -> Call {
+        if let Some(node) = (0..bus.nodes.len()).find(|&node| self.is_in_the_way(bus, node)) {
+            let buffer = Operation::Status { status: codec::BUS_OFF }.encode(&[]);
+            return Call::Submit { node, buffer };
+        }
+        let node = self.hoarder;
+        let seen = &bus.nodes[node];
+        if seen.is_bus_off() {
+            return Call::Submit { node, buffer: Operation::Status { status: 1 }.encode(&[]) };
+        }
+        // The winner's Confirm, and an Arbitration Lost for each of three.
+        let all_fit = seen.room() >= 4 * 12;
+        let value = if all_fit { codec::DISCARD_AND_NOTIFY } else { codec::BUFFER_AND_RETRANSMIT };
+        let buffer = if seen.behaviour == value {
+            Vec::new()
+        } else {
+            Operation::Configuration { kind: 4, value }.encode(&[])
+        };
+        let missing = PENDING_CAPACITY - seen.pending.len();
+        if missing > 0 || !buffer.is_empty() {
+            let frames = (0..missing).flat_map(|_| self.short_frame());
+            return Call::Submit { node, buffer: buffer.into_iter().chain(frames).collect() };
+        }
+        if seen.room() >= 12 {
+            return Call::Round { injection: None };
+        }
+        match self.random.below(4) {
+            0 => Call::Round { injection: None },
+            1 => Call::Submit { node, buffer: self.short_frame() },
+            2 => Call::Collect { node, room: self.collect_room(Some(seen)) },
+            _ => self.call(bus),
+        }
+    }
+
+    /// Whether a node, not the one that hoards, would get what is queued.
+    fn is_in_the_way(&self, bus: &Bus, node: usize) -> bool {
+        node != self.hoarder && !bus.nodes[node].is_bus_off()
+    }
+
+    fn short_frame(&mut self) -> Vec<u8> {
+        let id = self.random.pick(&self.ids);
+        Operation::CanTransmit { id, ide: 1, rtr: 0, length: 0 }.encode(&[])
     }
 
     pub fn call(&mut self, bus: &Bus) -> Call {

@@ -8,7 +8,8 @@
 //!   errors, and demand 3 against random sessions,
 //! - `cargo run --release --bin compare` compares the two codecs on generated cases,
 //! - `cargo run --release --bin registers` compares the two registers on drawn calls,
-//! - `cargo run --release --bin sessions` compares the buses on random sessions,
+//! - `cargo run --release --bin sessions` compares the buses on random sessions, and
+//!   holds demand 3 with the registers of their nodes,
 //! - `cargo run --release --bin bench` measures both sides against each other.
 //!
 //! With the feature `bus` the library's calls of the bus and of the register take
@@ -30,6 +31,7 @@ pub mod invalid;
 pub mod lent;
 pub mod library;
 pub mod memory;
+pub mod node_registers;
 pub mod plants;
 pub mod random;
 pub mod refusal;

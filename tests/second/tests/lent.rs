@@ -6,7 +6,7 @@ use second::bus_comparison::Comparison;
 use second::codec::{self, Operation};
 use second::lent::{self, Injection, Round, Slot, State};
 use second::lent::{PAYLOAD_BYTES, QUEUE_BYTES, SLOTS, SLOT_BYTES};
-use second::memory::Second;
+use second::memory::{Calls, Second};
 
 const W1: &str = "10 00 00 00 12 00 00 00 0F 00 00 00 00 00 02 00 AA BB ";
 const W2: &str = "20 00 00 00 0C 00 00 00 0F 00 00 00 ";
@@ -179,12 +179,14 @@ fn refusals_come_by_number() {
 
 #[test]
 fn random_sessions_beside_the_plain_bus() {
-    let mut comparison = Comparison::new(vec![("second bus", Box::new(Second))]);
+    let sides: Vec<(_, Box<dyn Calls>)> = vec![("second bus", Box::new(Second))];
+    let mut comparison = Comparison::new(sides, Box::new(Second));
     let mut cases = Cases::new(2_003);
-    while comparison.tally.calls() < 100_000 {
+    while comparison.tally.calls() < 200_000 {
         let played = comparison.session(&mut cases, 1_000);
         played.unwrap_or_else(|difference| panic!("{difference}"));
     }
-    let missing: Vec<String> = comparison.tally.missing().collect();
+    let unheld = comparison.registers.counts.missing().map(ToString::to_string);
+    let missing: Vec<String> = comparison.tally.missing().chain(unheld).collect();
     assert!(missing.is_empty(), "never came up: {}", missing.join("; "));
 }

@@ -1,5 +1,5 @@
 //! Compares the proved library's bus with the second one on random sessions,
-//! and both with the plain bus.
+//! and both with the plain bus, and holds demand 3 with the library's registers.
 
 use std::env;
 use std::process::ExitCode;
@@ -11,6 +11,8 @@ use second::bus_plants::{Planted, PLANTS};
 #[cfg(feature = "bus")]
 use second::memory::Library;
 use second::memory::{Calls, Second};
+use second::register_plants::{PlantedRegister, SESSION_PLANTS};
+use second::registers::Registers;
 
 const USAGE: &str = "usage: sessions [--seed S] [--calls N] [--plants]";
 
@@ -56,21 +58,37 @@ fn sides() -> Vec<(&'static str, Box<dyn Calls>)> {
     ]
 }
 
-/// Compares the second bus with each wrong one; says whether every wrong one
-/// was found. The library is left out, so that only what was planted differs.
+/// The library's register, or the second one in its place.
+fn registers() -> Box<dyn Registers> {
+    #[cfg(feature = "bus")]
+    return Box::new(Library);
+    #[cfg(not(feature = "bus"))]
+    return Box::new(Second);
+}
+
+/// Compares the second bus with each wrong one, and plays it with each wrong
+/// register; says whether every wrong one was found. The library is left out,
+/// so that only what was planted differs.
 fn self_check(seed: u64) -> bool {
     let mut all = true;
     for (name, plant) in PLANTS {
         let sides: Vec<(_, Box<dyn Calls>)> =
             vec![("second bus", Box::new(Second)), ("wrong bus", Box::new(Planted(plant)))];
-        let mut comparison = Comparison::new(sides);
-        let found = run(&mut comparison, seed, SELF_CHECK_CALLS).is_err();
-        let calls = comparison.tally.calls();
-        let verdict = if found { "found after" } else { "not found in" };
-        println!("self-check: {name}: {verdict} {calls} calls");
-        all &= found;
+        all &= is_found(name, Comparison::new(sides, Box::new(Second)), seed);
+    }
+    for (name, plant) in SESSION_PLANTS {
+        let sides: Vec<(_, Box<dyn Calls>)> = vec![("second bus", Box::new(Second))];
+        let register = Box::new(PlantedRegister(plant));
+        all &= is_found(name, Comparison::new(sides, register), seed);
     }
     all
+}
+
+fn is_found(name: &str, mut comparison: Comparison, seed: u64) -> bool {
+    let found = run(&mut comparison, seed, SELF_CHECK_CALLS).is_err();
+    let verdict = if found { "found after" } else { "not found in" };
+    println!("self-check: {name}: {verdict} {} calls", comparison.tally.calls());
+    found
 }
 
 fn main() -> ExitCode {
@@ -84,12 +102,13 @@ fn main() -> ExitCode {
         return ExitCode::FAILURE;
     }
     if options.plants {
-        println!("sessions: {} wrong buses, all found", PLANTS.len());
+        let (buses, registers) = (PLANTS.len(), SESSION_PLANTS.len());
+        println!("sessions: {buses} wrong buses and {registers} wrong registers, all found");
         return ExitCode::SUCCESS;
     }
     let sides = sides();
     let names: Vec<&str> = sides.iter().map(|(name, _)| *name).collect();
-    let mut comparison = Comparison::new(sides);
+    let mut comparison = Comparison::new(sides, registers());
     if let Err(difference) = run(&mut comparison, options.seed, options.calls) {
         println!("{difference}");
         println!("sessions: seed {}, call {}", options.seed, comparison.tally.calls());
@@ -98,8 +117,10 @@ fn main() -> ExitCode {
     let tally = &comparison.tally;
     print!("{tally}");
     println!("compared: {}, plain bus", names.join(", "));
+    println!("demand 3: {}", comparison.registers.counts);
     println!("seed {}, {:.1} s", options.seed, start.elapsed().as_secs_f64());
-    let missing: Vec<String> = tally.missing().collect();
+    let unheld = comparison.registers.counts.missing().map(ToString::to_string);
+    let missing: Vec<String> = tally.missing().chain(unheld).collect();
     if !missing.is_empty() {
         println!("sessions: never came up: {}", missing.join("; "));
         return ExitCode::FAILURE;
