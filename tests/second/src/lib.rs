@@ -12,9 +12,9 @@
 //!   holds demand 3 with the registers of their nodes,
 //! - `cargo run --release --bin bench` measures both sides against each other.
 //!
-//! With the feature `bus` the library's calls of the bus and of the register take
-//! part in the last three; without it the second program's register stands in for
-//! the library's.
+//! With the feature `bus`, a default one, the library's calls of the bus and of the
+//! register take part in the last three; without it the second program's register
+//! stands in for the library's.
 
 pub mod bus;
 pub mod bus_cases;
