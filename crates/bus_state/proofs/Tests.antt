@@ -90,10 +90,6 @@ pub nodes-bad : (j count : ℕ) (s : State) (a : List Slot) → j < count → va
     → validNodes (count - j) j s a ≡ false
 nodes-bad j count s a h e = nodes-step j count s a h ∙ rw e
 
-pub nodes-good : (j count : ℕ) (s : State) (a : List Slot) → j < count → validNode (s .round) j (nodeState s j) a ≡ true
-    → validNodes (count - j) j s a ≡ validNodes (count - suc j) (suc j) s a
-nodes-good j count s a h e = nodes-step j count s a h ∙ rw e
-
 pub nodes-end : (j count : ℕ) (s : State) (a : List Slot) → count ≤ j → validNodes (count - j) j s a ≡ true
 unfolding validNodes
 nodes-end j count s a h =

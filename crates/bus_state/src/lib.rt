@@ -62,35 +62,6 @@ fn slot_is_valid(s: Slot, owner: u8, low: u32, now: u32) -> bool
     slots::is_legal(s) & (s.owner == owner) & (low <= s.accepted) & (s.accepted <= now)
 }
 
-// The slots from one position to another hold a node's frames, oldest first.
-fn slots_are_valid(a: [Slot; 32], first: usize, end: usize, owner: u8, now: u32) -> bool
-    requires { ⌜ (first ≤ end) × (end ≤ 32) ⌝ }
-    ensures { λ r. ⌜ r ≡ validSlots (end - first) first owner 0 now a ⌝ }
-{
-    let mut low: u32 = 0;
-    let mut p = first;
-    while p < end {
-        let s = a[p];
-        if !slot_is_valid(s, owner, low, now) {
-            return false;
-        }
-        low = s.accepted;
-        p += 1;
-    }
-    true
-}
-
-fn node_is_valid(d: NodeState, a: [Slot; 32], j: u8, now: u32) -> bool
-    requires { ⌜ j < 8 ⌝ }
-    ensures { λ r. ⌜ r ≡ validNode now j d a ⌝ }
-{
-    if !entry_is_valid(d) {
-        return false;
-    }
-    let first = 4 * j as usize;
-    slots_are_valid(a, first, first + d.pending as usize, j, now)
-}
-
 // Whether a state with its slots is valid (01: sound).
 pub fn is_valid(s: State, a: [Slot; 32]) -> bool
     ensures { λ r. ⌜ r ≡ validState s a ⌝ }
@@ -102,11 +73,25 @@ pub fn is_valid(s: State, a: [Slot; 32]) -> bool
     if 8 < count {
         return false;
     }
+    let now = s.round;
     let nodes = s.nodes;
     let mut j: u32 = 0;
     while j < count {
-        if !node_is_valid(nodes[j as usize], a, j as u8, s.round) {
+        let d = nodes[j as usize];
+        if !entry_is_valid(d) {
             return false;
+        }
+        let first = 4 * j as usize;
+        let end = first + d.pending as usize;
+        let mut low: u32 = 0;
+        let mut p = first;
+        while p < end {
+            let held = a[p];
+            if !slot_is_valid(held, j as u8, low, now) {
+                return false;
+            }
+            low = held.accepted;
+            p += 1;
         }
         j += 1;
     }
