@@ -15,7 +15,7 @@ ghost use Rattle.bus_model.specs.Round.{pendingAt};
 ghost use Rattle.bus_model.specs.Calls.{arbitrateIn, rounded};
 ghost use Rattle.outcome.specs.Outcome.{endedBy, ended};
 ghost use Rattle.arbitration.specs.Injections.{injectionOf, injectionFrom, hasLegalCode, isWrong};
-ghost use Rattle.arbitration.specs.Winner.{heldAt, before, better, bestOf, bestIn};
+ghost use Rattle.arbitration.specs.Winner.{heldAt, before, better, bestIn};
 ghost use Rattle.arbitration.specs.Owed.{Writable, Frames, PendingAt, isOff, discards, discarded, own, toldCount, stayCount, flagAt, newsTo, noticeOf, noticesBut, owedTo, newsLength, owedLength, roomFrom};
 ghost use Rattle.arbitration.specs.After.{entryAfter, stateAfter, queuesAfter, source, blockWithout, payloadWithout};
 ghost use Rattle.arbitration.specs.Round.{carriedOut};
@@ -148,21 +148,7 @@ fn better(best: Winner, rank: u32, owner: usize, position: usize) -> Winner
     }
 }
 
-// The first of the best so far and a node's pending frames.
-fn best_of(a: [Slot; 32], j: usize, pending: usize, so_far: Winner) -> Winner
-    requires { ⌜ (j < 8) × (pending ≤ 4) ⌝ }
-    ensures { λ r. ⌜ r ≡ bestOf a j 0 pending «so_far» ⌝ }
-{
-    let mut best = so_far;
-    let mut q = 0;
-    while q < pending {
-        best = better(best, rank(a[4 * j + q]), j, q);
-        q += 1;
-    }
-    best
-}
-
-// The first of all pending frames.
+// The first of all pending frames: node by node, and each node's from the first on.
 fn best_in(s: State, a: [Slot; 32]) -> Winner
     requires { ⌜ validState s a ≡ true ⌝ }
     ensures { λ r. ⌜ r ≡ bestIn s a ⌝ }
@@ -173,7 +159,12 @@ fn best_in(s: State, a: [Slot; 32]) -> Winner
     let mut j = 0;
     while j < count {
         let d = nodes[j];
-        best = best_of(a, j, d.pending as usize, best);
+        let pending = d.pending as usize;
+        let mut q = 0;
+        while q < pending {
+            best = better(best, rank(a[4 * j + q]), j, q);
+            q += 1;
+        }
         j += 1;
     }
     best

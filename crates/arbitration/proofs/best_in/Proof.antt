@@ -1,15 +1,22 @@
--- The loop's invariant: the nodes from j on give the same as all attached ones.
-use Prim.Native.Nat.{_≤_, _-_}
-use Rattle.arbitration.proofs.Scan.{nodes-next, nodes-end}
+-- The invariants: the nodes from j on give the same as all attached ones, and a node's frames from q on the same as all of its.
+use Prim.Native.Nat.{_≤_, _<_, _-_}
+use Rattle.arbitration.proofs.Scan.{frames-next, frames-end, nodes-next, nodes-end}
 use Rattle.arbitration.proofs.Sound.{count-few, node-sound}
-use Rattle.arbitration.specs.Winner.{bestFrom, bestIn}
+use Rattle.arbitration.specs.Winner.{bestOf, bestFrom, bestIn}
 use Rattle.arbitration.specs.declared.Winner.the-variants.{Nobody}
 use borrow.Author.Needs.{needs}
 use mathlib.Core.Path.{_≡_, sym, _∙_}
+use native.Mathlib.Nat.{sub-zero}
 use native.Mathlib.Numerals.{add-one}
 use native.Mathlib.Omega.{arith}
 use Rattle.arbitration.proofs.best_in.Statement.{statement}
 use Rattle.arbitration.proofs.best_in.Tie as tie
+
+abbrev Inv-loop2 : tie.InvT-loop2
+Inv-loop2 a count nodes best₀ j pending q₀ best q = (q ≤ pending) × (pending ≤ 4) × (j < 8) × (bestOf a j q (pending - q) best ≡ bestOf a j 0 pending best₀)
+
+abbrev μ-loop2 : tie.MeasureT-loop2
+μ-loop2 a count nodes best₀ j pending q₀ best q = pending - q
 
 abbrev Inv-loop : tie.InvT-loop
 Inv-loop a count nodes best₀ j₀ best j = (j ≤ count) × (count ≤ 8) × (bestFrom nodes a j (count - j) best ≡ bestFrom nodes a 0 count Nobody)
@@ -17,43 +24,77 @@ Inv-loop a count nodes best₀ j₀ best j = (j ≤ count) × (count ≤ 8) × (
 abbrev μ-loop : tie.MeasureT-loop
 μ-loop a count nodes best₀ j₀ best j = count - j
 
-cast-count : tie.Need-cast-count Inv-loop μ-loop
+cast-count : tie.Need-cast-count Inv-loop2 μ-loop2 Inv-loop μ-loop
 cast-count c = search needs
 
-loop-holds : tie.Need-loop-holds Inv-loop μ-loop
+loop-holds : tie.Need-loop-holds Inv-loop2 μ-loop2 Inv-loop μ-loop
 loop-holds c =
     let s = c .before .before in
     let z : s .args .s .count - 0 ≡ s .args .s .count = omega arith in
     (omega arith, count-few (s .args .s) _ (s .pre), rw z)
 
-mul-d : tie.Need-mul-d Inv-loop μ-loop
+mul-d : tie.Need-mul-d Inv-loop2 μ-loop2 Inv-loop μ-loop
 mul-d c = search needs
 
-array-copy-out-d : tie.Need-array-copy-out-d Inv-loop μ-loop
+array-copy-out-d : tie.Need-array-copy-out-d Inv-loop2 μ-loop2 Inv-loop μ-loop
 array-copy-out-d c = search needs
 
-cast-best-of : tie.Need-cast-best-of Inv-loop μ-loop
-cast-best-of c = search needs
+cast-pending : tie.Need-cast-pending Inv-loop2 μ-loop2 Inv-loop μ-loop
+cast-pending c = search needs
 
-best-of-requires : tie.Need-best-of-requires Inv-loop μ-loop
-best-of-requires c κs =
+loop2-holds : tie.Need-loop2-holds Inv-loop2 μ-loop2 Inv-loop μ-loop
+loop2-holds c =
     let s = c .before .before .before .before .before .before in
     let l = c .before .before .before .loop in
-    (omega arith, node-sound (s .args .s) _ (s .pre) (l .j) (omega arith) .few)
+    let n = node-sound (s .args .s) _ (s .pre) (l .j) (omega arith) .few in
+    (omega arith, n, omega arith, rw (sub-zero _))
 
-add-j : tie.Need-add-j Inv-loop μ-loop
+mul-rank : tie.Need-mul-rank Inv-loop2 μ-loop2 Inv-loop μ-loop
+mul-rank c = search needs
+
+add-rank : tie.Need-add-rank Inv-loop2 μ-loop2 Inv-loop μ-loop
+add-rank c = search needs
+
+mul-rank-2 : tie.Need-mul-rank-2 Inv-loop2 μ-loop2 Inv-loop μ-loop
+mul-rank-2 c = search needs
+
+array-copy-out-rank : tie.Need-array-copy-out-rank Inv-loop2 μ-loop2 Inv-loop μ-loop
+array-copy-out-rank c = search needs
+
+rank-requires : tie.Need-rank-requires Inv-loop2 μ-loop2 Inv-loop μ-loop
+rank-requires c κs = search needs
+
+better-requires : tie.Need-better-requires Inv-loop2 μ-loop2 Inv-loop μ-loop
+better-requires c κs = search needs
+
+add-q : tie.Need-add-q Inv-loop2 μ-loop2 Inv-loop μ-loop
+add-q c = search needs
+
+loop2-less : tie.Need-loop2-less Inv-loop2 μ-loop2 Inv-loop μ-loop
+loop2-less c = search needs
+
+loop2-again : tie.Need-loop2-again Inv-loop2 μ-loop2 Inv-loop μ-loop
+loop2-again c =
+    let a = c .before .before .before .before .before .before .before .before .before .before .before .args in
+    let l = c .before .before .before .before .before .before .before .before .loop in
+    let k = c .before .before .before .before .loop2 in
+    (omega arith, k .inv .1, k .inv .2, rw (add-one (k .q), c .better .ensures, c .before .rank .ensures) (sym (frames-next (a .t2) (l .j) (k .q) _ (k .best) (omega arith)) ∙ k .inv .3))
+
+add-j : tie.Need-add-j Inv-loop2 μ-loop2 Inv-loop μ-loop
 add-j c = search needs
 
-loop-less : tie.Need-loop-less Inv-loop μ-loop
+loop-less : tie.Need-loop-less Inv-loop2 μ-loop2 Inv-loop μ-loop
 loop-less c = search needs
 
-loop-again : tie.Need-loop-again Inv-loop μ-loop
+loop-again : tie.Need-loop-again Inv-loop2 μ-loop2 Inv-loop μ-loop
 loop-again c =
-    let s = c .before .before .before .before .before .before .before in
-    let l = c .before .before .before .before .loop in
-    (omega arith, omega arith, rw (add-one (l .j), c .best-of .ensures) (sym (nodes-next (s .args .s .nodes) _ (l .j) (s .args .s .count) (l .best) (omega arith)) ∙ l .inv .2))
+    let s = c .before .before .before .before .before .before .before .before in
+    let l = c .before .before .before .before .before .loop in
+    let k = c .before .loop2 in
+    let e = sym (frames-end (s .args .t2) (l .j) (k .q) _ (k .best) (omega arith)) ∙ k .inv .3 in
+    (omega arith, omega arith, rw (add-one (l .j), e) (sym (nodes-next (s .args .s .nodes) (s .args .t2) (l .j) (s .args .s .count) (l .best) (omega arith)) ∙ l .inv .2))
 
-returns : tie.Need-returns Inv-loop μ-loop
+returns : tie.Need-returns Inv-loop2 μ-loop2 Inv-loop μ-loop
 unfolding bestIn
 returns c =
     let s = c .before .before .before .before in
@@ -63,5 +104,6 @@ returns c =
 pub best-in-spec : {M : Type 1} → statement M
 best-in-spec =
     tie.close
-    (tie.spec Inv-loop μ-loop cast-count loop-holds mul-d array-copy-out-d cast-best-of best-of-requires add-j
-    loop-less loop-again returns)
+    (tie.spec Inv-loop2 μ-loop2 Inv-loop μ-loop cast-count loop-holds mul-d array-copy-out-d cast-pending
+    loop2-holds mul-rank add-rank mul-rank-2 array-copy-out-rank rank-requires better-requires add-q loop2-less
+    loop2-again add-j loop-less loop-again returns)
