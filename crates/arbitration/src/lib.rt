@@ -16,7 +16,7 @@ ghost use Rattle.bus_model.specs.Calls.{arbitrateIn, rounded};
 ghost use Rattle.outcome.specs.Outcome.{endedBy, ended};
 ghost use Rattle.arbitration.specs.Injections.{injectionOf, injectionFrom, hasLegalCode, isWrong};
 ghost use Rattle.arbitration.specs.Winner.{heldAt, before, better, bestIn};
-ghost use Rattle.arbitration.specs.Owed.{Writable, Frames, PendingAt, isOff, discards, discarded, own, toldCount, stayCount, flagAt, newsTo, noticeOf, noticesBut, owedTo, newsLength, owedLength, roomFrom};
+ghost use Rattle.arbitration.specs.Owed.{Writable, Frames, PendingAt, isOff, discards, discarded, own, toldCount, stayCount, flagAt, newsTo, noticeOf, newsLength, owedLength, roomFrom};
 ghost use Rattle.arbitration.specs.After.{entryAfter, stateAfter, queuesAfter, source, blockWithout, payloadWithout};
 ghost use Rattle.arbitration.specs.Round.{carriedOut};
 use bus_state::NodeState;
@@ -397,53 +397,29 @@ fn put_notice(frame: Slot, wins: bool, queues: &mut [u8], at: usize) -> usize
     at + 12
 }
 
-// Arbitration Lost for the frames from one slot to another, but not for the winner's.
-fn put_notices(a: [Slot; 32], winner: usize, first: usize, end: usize, queues: &mut [u8], at: usize)
-    requires { ⌜ (first ≤ end) × (end ≤ 32) ⌝ }
-    requires { ⌜ Frames a first end ⌝ }
-    requires { ⌜ at + length (noticesBut a winner first (end - first)) ≤ length (now queues) ⌝ }
-    ensures { λ _. ⌜ now (queues .exit) ≡ over (now (queues .entry)) at (noticesBut a winner first (end - first)) ⌝ }
-{
-    let mut to = at;
-    let mut p = first;
-    while p < end {
-        to = put_notice(a[p], p == winner, queues, to);
-        p += 1;
-    }
-}
-
-// Writes what a node is owed behind the fill of its queue; size is the length of the winner's Transmit.
+// Writes what a node is told of the winner behind the fill of its queue, and answers the place after it; size is the length of the
+// winner's Transmit.
 fn tell(
     d: NodeState,
     j: usize,
     e: Injection,
     owner: usize,
-    position: usize,
     size: usize,
-    a: [Slot; 32],
+    winner: Slot,
     bytes: &[u8],
     queues: &mut [u8],
-)
-    requires { ⌜ (j < 8) × (owner < 8) × (position < 4) × (d .pending ≤ 4) ⌝ }
-    requires { ⌜ Writable (heldAt a (4 * owner + position)) ⌝ }
-    requires { ⌜ Frames a (4 * j) (4 * j + d .pending) ⌝ }
-    requires { ⌜ (hasLegalCode e ≡ true) × (length (now bytes) ≡ dataLength (heldAt a (4 * owner + position))) × (size ≡ lengthOf (heldAt a (4 * owner + position))) ⌝ }
-    requires { ⌜ 4096 * j + d .fill + length (owedTo e d j owner position a (now bytes)) ≤ length (now queues) ⌝ }
-    ensures { λ _. ⌜ now (queues .exit) ≡ over (now (queues .entry)) (4096 * j + d .fill) (owedTo e d j owner position a (now (bytes .entry))) ⌝ }
+) -> usize
+    requires { ⌜ j < 8 ⌝ }
+    requires { ⌜ Writable (heldIn (contentOf winner)) ⌝ }
+    requires { ⌜ (hasLegalCode e ≡ true) × (length (now bytes) ≡ dataLength (heldIn (contentOf winner))) × (size ≡ lengthOf (heldIn (contentOf winner))) ⌝ }
+    requires { ⌜ 4096 * j + d .fill + length (newsTo e j owner (isOff d) (heldIn (contentOf winner)) (now bytes)) ≤ length (now queues) ⌝ }
+    ensures { λ r. ⌜ r ≡ 4096 * j + d .fill + length (newsTo e j owner (isOff d) (heldIn (contentOf winner)) (now (bytes .entry))) ⌝ }
+    ensures { λ _. ⌜ now (queues .exit) ≡ over (now (queues .entry)) (4096 * j + d .fill) (newsTo e j owner (isOff d) (heldIn (contentOf winner)) (now (bytes .entry))) ⌝ }
 {
-    let winner = 4 * owner + position;
     let off = is_off(d);
     let at = 4096 * j + d.fill as usize;
-    put_news(e, j, owner, off, a[winner], bytes, queues, at);
-    let behind = at + news_length(e, j == owner, off, size);
-    put_notices(
-        a,
-        winner,
-        4 * j,
-        4 * j + discarded(d) as usize,
-        queues,
-        behind,
-    );
+    put_news(e, j, owner, off, winner, bytes, queues, at);
+    at + news_length(e, j == owner, off, size)
 }
 
 // A node's entry after the round.
@@ -476,11 +452,19 @@ fn tell_all(
 {
     let count = s.count as usize;
     let nodes = s.nodes;
+    let slot = 4 * owner + position;
+    let winner = a[slot];
     let mut after = s.nodes;
     let mut j = 0;
     while j < count {
         let d = nodes[j];
-        tell(d, j, e, owner, position, size, a, bytes, queues);
+        let mut to = tell(d, j, e, owner, size, winner, bytes, queues);
+        let mut p = 4 * j;
+        let end = p + discarded(d) as usize;
+        while p < end {
+            to = put_notice(a[p], p == slot, queues, to);
+            p += 1;
+        }
         after[j] = entry_after(d, j == owner, e, size);
         j += 1;
     }
