@@ -52,7 +52,7 @@ pub struct Answer {
     pub state: State,
 }
 
-// The four slots from a position on.
+// The four slots from a position on, for the crates above: what is asked of the position they must meet.
 pub fn block_at(a: [Slot; 32], at: usize) -> [Slot; 4]
     requires { ⌜ at + 4 ≤ 32 ⌝ }
     ensures { λ r. ⌜ r ≡ blockAt a at ⌝ }
