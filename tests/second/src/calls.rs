@@ -50,7 +50,7 @@ impl Calls {
         }
     }
 
-    /// Draws the node that hoards in this session.
+    /// Draws the node that hoards from now on.
     pub fn draw_hoarder(&mut self, bus: &Bus) {
         self.hoarder = self.random.below(bus.nodes.len());
     }
