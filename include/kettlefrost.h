@@ -6,14 +6,14 @@
  * laid out as in the standard's CAN chapter (little-endian: code, length, fields, data): what a model makes with the
  * standard's own headers is submitted as it is, and what is collected is read with them, or with kf_read and kf_data.
  *
- *     kf_slot slots[KF_SLOTS]; uint8_t payload[KF_PAYLOAD_BYTES], queues[KF_QUEUE_BYTES], out[KF_QUEUE_CAPACITY];
+ *     static kf_slot slots[KF_SLOTS]; static uint8_t payload[KF_PAYLOAD_BYTES], queues[KF_QUEUE_BYTES];
  *     kf_answer a = kf_start(slots, KF_SLOTS, payload, sizeof payload, queues, sizeof queues, 3);
  *     a = kf_submit(a.state, slots, KF_SLOTS, payload, sizeof payload, queues, sizeof queues, 0, in, in_length);
  *     a = kf_round(a.state, slots, KF_SLOTS, payload, sizeof payload, queues, sizeof queues, 0, 0, 0);
  *     a = kf_collect(a.state, slots, KF_SLOTS, payload, sizeof payload, queues, sizeof queues, 1, out, sizeof out);
  *
  * After each call a.number is KF_DONE or says why the call was refused, and a.state is the state to go on with. After
- * the last one the first a.length bytes of out are the operations for node 1.
+ * the last one the first a.length bytes of out, for which KF_QUEUE_CAPACITY bytes will always do, are what node 1 gets.
  *
  * What is proved of every call, whatever bytes, numbers, state and register it is given:
  *
@@ -21,11 +21,11 @@
  *   or with KF_DONE where none does.
  * - Refused, it changes no byte of that memory and hands the state or the register back as it was; all other values of
  *   its answer are 0. (A refused start: a state of node count 0, which every call refuses.)
- * - Done, it changes what its comment says. Bytes that hold nothing stay as they were: slots and payload of no frame, a
- *   queue past its fill, a buffer past the length given.
+ * - Done, it writes what its comment says and nothing else. To remove a frame or empty a queue erases nothing: slots
+ *   and payload of no frame and a queue past its fill keep what they held, as does a buffer past the length given.
  *
  * No call keeps a pointer, allocates memory or has variables of its own: calls on different states and memories are
- * independent, in any threads.
+ * independent, in any threads. The library is built for x86-64 and needs of the C library memcpy and memset alone.
  *
  * What is asked of the caller: a pointer leads to as much memory as the length after it says (a null pointer will do
  * for length 0), and memory that a call may write overlaps nothing else that it is given. Slots, payload and queues may

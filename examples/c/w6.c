@@ -74,7 +74,7 @@ static void start(struct bus *bus) {
 /* A CAN Transmit, written to the front of a buffer, is submitted and entered. */
 static void submit(struct bus *bus, kf_register *reg, uint32_t node, uint32_t id, const uint8_t *data,
                    uint16_t length) {
-    uint8_t buffer[24];
+    uint8_t buffer[24]; /* the longest CAN Transmit */
     kf_operation transmit = {KF_CAN_TRANSMIT, id, 0, length, 0, 0, 0, 0};
     kf_written w = kf_write(transmit, data, length, buffer, sizeof buffer);
     expect_done(w.refusal, "kf_write");
