@@ -20,7 +20,7 @@
  * - It returns, stays within the memory it is given, and answers with the first number of its list below that applies,
  *   or with KF_DONE where none does.
  * - Refused, it changes no byte of that memory and hands the state or the register back as it was; all other values of
- *   its answer are 0. (A refused start: a state of node count 0, which every call refuses.)
+ *   its answer are 0. (A refused start: a state of node count 0, which no call takes.)
  * - Done, it writes what its comment says and nothing else. To remove a frame or empty a queue erases nothing: slots
  *   and payload of no frame and a queue past its fill keep what they held, as does a buffer past the length given.
  *
