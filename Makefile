@@ -1,27 +1,50 @@
 # make run        plays the sessions W5 and W6, then decodes the sample stream
 # make test       the gate: every proof from nothing, then the tests beside them
+# make examples   plays W6 from each language that has an example, held to examples/w6.txt
+# make install    header, static and shared library and pkg-config file to PREFIX=.. (DESTDIR=.. in front, to stage)
 # make bench      throughput of the proved library against the second program
 # make soak N=..  N calls of the bus in random sessions, compared; SEED=.. for other ones
-.PHONY: run test bench soak clean
+.PHONY: run test examples install bench soak clean always
 
+RT = rt
+PREFIX = /usr/local
 N = 20000000
 SEED = 11898
 
+archive = target/staticlib/libkettlefrost.a
+shared = target/staticlib/libkettlefrost.so
+installed = $(DESTDIR)$(PREFIX)
+
 run:
-	rt check sessions decode
+	$(RT) check sessions decode
 	./target/bin/sessions
 	./target/bin/decode samples/mixed.bin
 
 test:
 	.ci/run
 
-bench:
-	rt staticlib kettlefrost
+# Proves what changed, and only that.
+$(archive): always
+	$(RT) staticlib kettlefrost
+
+# The same object code. No text relocations: the archive has to be position independent.
+$(shared): $(archive)
+	$(CC) -shared -Wl,-soname,$(@F) -Wl,-z,defs -Wl,-z,text -Wl,--whole-archive $< -Wl,--no-whole-archive -o $@
+
+examples: $(archive) $(shared)
+	examples/run.sh
+
+install: $(archive) $(shared)
+	install -d $(installed)/include $(installed)/lib/pkgconfig
+	install -m 644 include/kettlefrost.h $(installed)/include
+	install -m 644 $(archive) $(shared) $(installed)/lib
+	sed 's|@PREFIX@|$(PREFIX)|' kettlefrost.pc.in >$(installed)/lib/pkgconfig/kettlefrost.pc
+
+bench: $(archive)
 	cd tests/second && cargo build --release --offline --quiet
 	tests/second/target/release/bench
 
-soak:
-	rt staticlib kettlefrost
+soak: $(archive)
 	cd tests/second && cargo build --release --offline --quiet
 	tests/second/target/release/sessions --calls $(N) --seed $(SEED)
 

@@ -1,0 +1,80 @@
+#!/bin/sh
+# An installed copy: installs to a temporary folder, builds the C example and a C++ program from that copy alone, with
+# the flags that pkg-config gives, and holds what the example prints to examples/w6.txt.
+set -eu
+cd "$(dirname "$0")/../.."
+root=$PWD
+work=$(mktemp -d)
+trap 'rm -rf "$work"' EXIT
+checks=0
+
+fail() {
+    echo "installed: $*"
+    exit 1
+}
+
+# check NAME COMMAND..
+check() {
+    name=$1
+    shift
+    "$@" || fail "failed: $name"
+    checks=$((checks + 1))
+}
+
+for tool in g++ pkg-config; do
+    command -v "$tool" >/dev/null || {
+        apt-get update -qq
+        apt-get install -y -qq "$tool" >/dev/null
+    }
+done
+
+install_to() {
+    make --no-print-directory -s install "$@" RT="${RT:-rt}" >"$work/log" 2>&1 || {
+        cat "$work/log"
+        fail "make install $*"
+    }
+}
+
+install_to PREFIX="$work/prefix"
+(cd "$work/prefix" && find . -type f | sort) >"$work/files"
+cat >"$work/wanted" <<'END'
+./include/kettlefrost.h
+./lib/libkettlefrost.a
+./lib/libkettlefrost.so
+./lib/pkgconfig/kettlefrost.pc
+END
+check 'the files installed' diff "$work/wanted" "$work/files"
+check 'the header installed' cmp include/kettlefrost.h "$work/prefix/include/kettlefrost.h"
+
+install_to PREFIX=/usr DESTDIR="$work/stage"
+(cd "$work/stage/usr" && find . -type f | sort) >"$work/files"
+check 'the files staged' diff "$work/wanted" "$work/files"
+check 'the prefix of the files staged' grep -q -x 'prefix=/usr' "$work/stage/usr/lib/pkgconfig/kettlefrost.pc"
+
+# From here on only the copy and the example's source are used.
+export PKG_CONFIG_PATH="$work/prefix/lib/pkgconfig"
+cp examples/c/w6.c tests/interface/header.cpp "$work"
+cd "$work"
+cc=${CC:-cc}
+package=$(pkg-config --cflags --libs kettlefrost)
+
+prints_w6() {
+    "$@" >w6.txt && diff "$root/examples/w6.txt" w6.txt
+}
+
+loads_the_copy() {
+    ldd ./dynamic | grep -q "=> $work/prefix/lib/libkettlefrost.so "
+}
+
+export LD_LIBRARY_PATH="$work/prefix/lib"
+check 'a dynamic program is built' "$cc" w6.c $package -o dynamic
+check 'it loads the installed library' loads_the_copy
+check 'it prints W6' prints_w6 ./dynamic
+check 'a C++ program is built' g++ -std=c++11 -Wall -Wextra -pedantic -Werror header.cpp $package -o cpp
+check 'it runs' ./cpp
+
+unset LD_LIBRARY_PATH
+mv prefix/lib/libkettlefrost.so away
+check 'a static program is built' "$cc" -static w6.c $package -o static
+check 'it prints W6 without the shared library' prints_w6 ./static
+echo "installed: $checks checks"
