@@ -4,12 +4,14 @@
 
 use std::fmt;
 
+use kettlefrost::raw;
+
 use crate::bus::{Bus, Round};
 use crate::bus_cases::{Case, Cases, Course};
 use crate::bus_tally::{BusTally, Part, Size};
+use crate::by_value;
 use crate::invalid::{Breaker, Invalid};
-use crate::lent::{Slot, State};
-use crate::library::KfAnswer;
+use crate::lent::{self, Slot, State};
 use crate::memory::{Call, Calls, Memory, Sizes};
 use crate::node_registers::NodeRegisters;
 use crate::registers::Registers;
@@ -42,7 +44,7 @@ struct Side {
 }
 
 impl Side {
-    fn play(&mut self, sizes: Sizes, call: &Call) -> KfAnswer {
+    fn play(&mut self, sizes: Sizes, call: &Call) -> raw::Answer {
         self.calls.play(&mut self.memory, sizes, call)
     }
 
@@ -58,7 +60,7 @@ impl Side {
     }
 
     /// Holds an answer against the one expected, its state included.
-    fn answers(&self, call: &Call, expected: &KfAnswer, given: &KfAnswer) -> Compared {
+    fn answers(&self, call: &Call, expected: &raw::Answer, given: &raw::Answer) -> Compared {
         let differ = given != expected;
         self.agrees(call, differ.then(|| format!("answer {given:?}, not {expected:?}")))
     }
@@ -172,7 +174,7 @@ impl Comparison {
         match Bus::start(count as usize) {
             Err(number) => {
                 self.tally.start(count, Some(number));
-                self.refused(&call, Sizes::RIGHT, number, State::new(0))?;
+                self.refused(&call, Sizes::RIGHT, number, lent::new_state(0))?;
                 return Ok(false);
             }
             Ok(bus) => {
@@ -180,7 +182,7 @@ impl Comparison {
                 self.plain = bus;
             }
         }
-        let expected = KfAnswer::new(0, State::new(count));
+        let expected = by_value::answer(0, lent::new_state(count));
         for side in &mut self.sides {
             let answer = side.play(Sizes::RIGHT, &call);
             side.answers(&call, &expected, &answer)?;
@@ -193,11 +195,11 @@ impl Comparison {
     /// A call that every side has to refuse with `number`, handing back
     /// `state`.
     fn refused(&mut self, call: &Call, sizes: Sizes, number: u8, state: State) -> Compared {
-        self.unchanged(call, sizes, &KfAnswer::new(number, state))
+        self.unchanged(call, sizes, &by_value::answer(number, state))
     }
 
     /// A call that changes nothing.
-    fn unchanged(&mut self, call: &Call, sizes: Sizes, expected: &KfAnswer) -> Compared {
+    fn unchanged(&mut self, call: &Call, sizes: Sizes, expected: &raw::Answer) -> Compared {
         self.kept.copy_from(&self.sides[0].memory);
         for side in &mut self.sides {
             let answer = side.play(sizes, call);
@@ -211,9 +213,9 @@ impl Comparison {
     /// a state that is not valid, come second.
     fn wrong_size(&mut self, call: &Call, part: Part, size: Size, unstarted: bool) -> Compared {
         let held = self.sides[0].memory.state;
-        let lent = if unstarted { State::new(0) } else { held };
+        let lent = if unstarted { lent::new_state(0) } else { held };
         let (state, also) = match *call {
-            Call::Start { count } => (State::new(0), (!(2..=8).contains(&count)).then_some(2)),
+            Call::Start { count } => (lent::new_state(0), (!(2..=8).contains(&count)).then_some(2)),
             _ => (lent, unstarted.then_some(3)),
         };
         self.tally.wrong_memory(call, part, size, also);
@@ -261,7 +263,7 @@ impl Comparison {
     }
 
     /// A call with everything as it should be; gives the last side's answer.
-    fn call(&mut self, call: &Call) -> Result<KfAnswer, Box<Difference>> {
+    fn call(&mut self, call: &Call) -> Result<raw::Answer, Box<Difference>> {
         let played = call.plain().expect("starts are played elsewhere");
         let before = self.plain.clone();
         let answer = session::answer(&mut self.plain, &played);
@@ -300,15 +302,15 @@ impl Comparison {
 }
 
 /// The plain bus's answer in the library's terms.
-fn expected(answer: &session::Answer, state: State) -> KfAnswer {
-    let done = KfAnswer::new(0, state);
+fn expected(answer: &session::Answer, state: State) -> raw::Answer {
+    let done = by_value::answer(0, state);
     match *answer {
         Ok(Done::Submitted) => done,
-        Ok(Done::Round(Round::Idle)) => KfAnswer { idle: 1, ..done },
+        Ok(Done::Round(Round::Idle)) => raw::Answer { idle: 1, ..done },
         Ok(Done::Round(Round::Carried { sender, id, errored, age })) => {
-            KfAnswer { sender: sender as u8, id, errored: errored.into(), age, ..done }
+            raw::Answer { sender: sender as u8, id, errored: errored.into(), age, ..done }
         }
-        Ok(Done::Collected(ref bytes)) => KfAnswer { length: bytes.len() as u16, ..done },
-        Err(number) => KfAnswer::new(number, state),
+        Ok(Done::Collected(ref bytes)) => raw::Answer { length: bytes.len() as u16, ..done },
+        Err(number) => by_value::answer(number, state),
     }
 }

@@ -1,10 +1,12 @@
 //! Wrong buses, to see that the comparison finds them. Each is the second bus
 //! with one kind of answer, or of what it leaves in memory, altered.
 
+use kettlefrost::raw;
+
 use crate::bus::{LONGEST_BUFFER, PENDING_CAPACITY, QUEUE_CAPACITY};
+use crate::by_value;
 use crate::codec::{self, Operation};
-use crate::lent::{Injection, Slot, State, SLOTS, SLOT_BYTES};
-use crate::library::KfAnswer;
+use crate::lent::{self, Injection, Slot, State, SLOTS, SLOT_BYTES};
 use crate::memory::{Call, Calls, Memory, Second, Sizes};
 
 /// A call that the second bus has answered.
@@ -12,7 +14,7 @@ pub struct Played<'a> {
     before: &'a Memory,
     call: &'a Call,
     after: &'a mut Memory,
-    answer: &'a mut KfAnswer,
+    answer: &'a mut raw::Answer,
     sizes: Sizes,
 }
 
@@ -23,7 +25,7 @@ pub type Alteration = fn(&mut Played);
 pub struct Planted(pub Alteration);
 
 impl Calls for Planted {
-    fn play(&self, memory: &mut Memory, sizes: Sizes, call: &Call) -> KfAnswer {
+    fn play(&self, memory: &mut Memory, sizes: Sizes, call: &Call) -> raw::Answer {
         let before = &memory.clone();
         let mut answer = Second.play(memory, sizes, call);
         self.0(&mut Played { before, call, after: memory, answer: &mut answer, sizes });
@@ -91,7 +93,7 @@ pub const PLANTS: [(&str, Alteration); 52] = [
 
 impl<'a> Played<'a> {
     fn refuse(&mut self, number: u32) {
-        *self.answer = KfAnswer { number, ..KfAnswer::new(0, self.before.state) };
+        *self.answer = raw::Answer { number, ..by_value::answer(0, self.before.state) };
     }
 
     fn is_start(&self) -> bool {
@@ -149,7 +151,7 @@ impl<'a> Played<'a> {
 fn always_idle(played: &mut Played) {
     if played.sender().is_some() {
         played.after.copy_from(played.before);
-        *played.answer = KfAnswer { idle: 1, ..KfAnswer::new(0, played.before.state) };
+        *played.answer = raw::Answer { idle: 1, ..by_value::answer(0, played.before.state) };
     }
 }
 
@@ -180,7 +182,7 @@ fn narrow_code(played: &mut Played) {
 fn bus_off_detects(played: &mut Played) {
     if let (6, Call::Round { injection: Some(injection) }) = (played.answer.number, played.call) {
         let nodes = &played.before.state.nodes;
-        if nodes.get(injection.detector as usize).is_some_and(|node| node.is_bus_off()) {
+        if nodes.get(injection.detector as usize).is_some_and(lent::is_bus_off) {
             played.instead(&Call::Round { injection: None });
         }
     }
@@ -189,7 +191,7 @@ fn bus_off_detects(played: &mut Played) {
 fn idle_first(played: &mut Played) {
     let State { count, nodes, .. } = played.before.state;
     if played.answer.number == 6 && nodes[..count as usize].iter().all(|node| node.pending == 0) {
-        *played.answer = KfAnswer { idle: 1, ..KfAnswer::new(0, played.before.state) };
+        *played.answer = raw::Answer { idle: 1, ..by_value::answer(0, played.before.state) };
     }
 }
 
@@ -389,7 +391,7 @@ fn each_fill(state: &mut State) {
 }
 
 fn no_frames(state: &mut State) {
-    for node in state.nodes.iter_mut().filter(|node| node.is_bus_off()) {
+    for node in state.nodes.iter_mut().filter(|node| lent::is_bus_off(node)) {
         node.pending = 0;
     }
 }
@@ -433,7 +435,7 @@ fn ask_other_entries(played: &mut Played) {
 
 fn ask_free_slots(played: &mut Played) {
     let asked = &played.before.slots[..SLOTS];
-    let unknown = asked.iter().any(|slot| slot.kind != 0 && slot.operation().is_none());
+    let unknown = asked.iter().any(|slot| slot.kind != 0 && lent::operation_in(slot).is_none());
     if !played.is_start() && played.answer.number == 0 && unknown {
         played.refuse(3);
     }
@@ -482,7 +484,7 @@ fn wake_sender(played: &mut Played) {
     if played.answer.number == 0 && operations.any(|(op, _)| op == Ok(Operation::Wakeup)) {
         let entry = &mut played.answer.state.nodes[node];
         let fill = usize::from(entry.fill);
-        if !entry.is_bus_off() && fill + 8 <= QUEUE_CAPACITY {
+        if !lent::is_bus_off(entry) && fill + 8 <= QUEUE_CAPACITY {
             let queue = &mut played.after.queues[node * QUEUE_CAPACITY..][fill..fill + 8];
             Operation::Wakeup.put(&[], queue);
             entry.fill += 8;
@@ -492,7 +494,7 @@ fn wake_sender(played: &mut Played) {
 
 fn bus_off_unanswered(played: &mut Played) {
     let Some((node, _)) = played.submitted() else { return };
-    if played.answer.number == 0 && played.before.state.nodes[node].is_bus_off() {
+    if played.answer.number == 0 && lent::is_bus_off(&played.before.state.nodes[node]) {
         played.answer.state.nodes[node].fill = played.before.state.nodes[node].fill;
     }
 }
@@ -503,7 +505,7 @@ fn four_pending_first(played: &mut Played) {
     let transmits = operations.filter(|op| op.transmit_id().is_some()).count();
     if played.answer.number == 9 {
         let entry = &played.before.state.nodes[node];
-        if !entry.is_bus_off() && usize::from(entry.pending) + transmits > PENDING_CAPACITY {
+        if !lent::is_bus_off(entry) && usize::from(entry.pending) + transmits > PENDING_CAPACITY {
             played.answer.number = 8;
         }
     }

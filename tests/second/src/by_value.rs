@@ -1,14 +1,20 @@
 //! The calls of the bus in the library's form: the state by value, and one
 //! record as the answer.
 
+use kettlefrost::raw;
+
 use crate::lent::{self, Injection, Round, Slot, State};
-use crate::library::KfAnswer;
+
+/// The answer of a call that is done, or refused with this number.
+pub fn answer(number: u8, state: State) -> raw::Answer {
+    raw::Answer { number: number.into(), state, ..raw::Answer::default() }
+}
 
 /// A refused start answers with a state of node count 0.
-pub fn start(slots: &mut [Slot], payload: &[u8], queues: &[u8], count: u32) -> KfAnswer {
+pub fn start(slots: &mut [Slot], payload: &[u8], queues: &[u8], count: u32) -> raw::Answer {
     match lent::start(slots, payload, queues, count) {
-        Ok(state) => KfAnswer::new(0, state),
-        Err(number) => KfAnswer::new(number, State::new(0)),
+        Ok(state) => answer(0, state),
+        Err(number) => answer(number, lent::new_state(0)),
     }
 }
 
@@ -20,8 +26,8 @@ pub fn submit(
     queues: &mut [u8],
     node: u32,
     buffer: &[u8],
-) -> KfAnswer {
-    let mut answer = KfAnswer::new(0, state);
+) -> raw::Answer {
+    let mut answer = answer(0, state);
     if let Err(number) = lent::submit(&mut answer.state, slots, payload, queues, node, buffer) {
         answer.number = number.into();
     }
@@ -35,8 +41,8 @@ pub fn round(
     payload: &mut [u8],
     queues: &mut [u8],
     injection: Option<Injection>,
-) -> KfAnswer {
-    let mut answer = KfAnswer::new(0, state);
+) -> raw::Answer {
+    let mut answer = answer(0, state);
     match lent::round(&mut answer.state, slots, payload, queues, injection) {
         Ok(Round::Idle) => answer.idle = 1,
         Ok(Round::Carried { sender, id, errored, age }) => {
@@ -58,8 +64,8 @@ pub fn collect(
     queues: &[u8],
     node: u32,
     buffer: &mut [u8],
-) -> KfAnswer {
-    let mut answer = KfAnswer::new(0, state);
+) -> raw::Answer {
+    let mut answer = answer(0, state);
     match lent::collect(&mut answer.state, slots, payload, queues, node, buffer) {
         Ok(length) => answer.length = length as u16,
         Err(number) => answer.number = number.into(),

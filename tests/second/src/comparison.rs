@@ -2,33 +2,35 @@
 
 use std::fmt::{self, Debug, Write as _};
 
+use kettlefrost::raw;
+
 use crate::codec::{self, Operation, Reading};
 use crate::generate::Case;
-use crate::library::{self, KfOperation, KfPart, KfReading, KfWritten};
+use crate::records::UnknownCode;
 use crate::tally::Tally;
 
 /// A codec in the library's terms. Both sides are compared in these, so that
 /// fields that a kind does not have are compared too.
 pub trait Codec {
-    fn read(&self, buf: &[u8], at: usize) -> KfReading;
-    fn data(&self, buf: &[u8], op: &KfOperation, next: usize) -> KfPart;
-    fn write(&self, op: &KfOperation, data: &[u8], buf: &mut [u8]) -> KfWritten;
+    fn read(&self, buf: &[u8], at: usize) -> raw::Reading;
+    fn data(&self, buf: &[u8], op: &raw::Operation, next: usize) -> raw::Part;
+    fn write(&self, op: &raw::Operation, data: &[u8], buf: &mut [u8]) -> raw::Written;
 }
 
 /// The proved library.
 pub struct Library;
 
 impl Codec for Library {
-    fn read(&self, buf: &[u8], at: usize) -> KfReading {
-        library::read(buf, at)
+    fn read(&self, buf: &[u8], at: usize) -> raw::Reading {
+        raw::read(buf, at)
     }
 
-    fn data(&self, buf: &[u8], op: &KfOperation, next: usize) -> KfPart {
-        library::data(buf, *op, next)
+    fn data(&self, buf: &[u8], op: &raw::Operation, next: usize) -> raw::Part {
+        raw::data(buf, *op, next)
     }
 
-    fn write(&self, op: &KfOperation, data: &[u8], buf: &mut [u8]) -> KfWritten {
-        library::write(*op, data, buf)
+    fn write(&self, op: &raw::Operation, data: &[u8], buf: &mut [u8]) -> raw::Written {
+        raw::write(*op, data, buf)
     }
 }
 
@@ -36,34 +38,36 @@ impl Codec for Library {
 pub struct Second;
 
 impl Codec for Second {
-    fn read(&self, buf: &[u8], at: usize) -> KfReading {
+    fn read(&self, buf: &[u8], at: usize) -> raw::Reading {
         match codec::read(buf, at) {
-            Reading::End => KfReading { end: 1, next: at, ..KfReading::default() },
+            Reading::End => raw::Reading { end: 1, next: at, ..raw::Reading::default() },
             Reading::Fault { number, next } => {
-                KfReading { fault: number.into(), next, ..KfReading::default() }
+                raw::Reading { fault: number.into(), next, ..raw::Reading::default() }
             }
-            Reading::Found { op, next } => {
-                KfReading { operation: KfOperation::from(&op), next, ..KfReading::default() }
-            }
+            Reading::Found { op, next } => raw::Reading {
+                operation: raw::Operation::from(&op),
+                next,
+                ..raw::Reading::default()
+            },
         }
     }
 
-    fn data(&self, buf: &[u8], op: &KfOperation, next: usize) -> KfPart {
+    fn data(&self, buf: &[u8], op: &raw::Operation, next: usize) -> raw::Part {
         let data = Operation::try_from(op).map_or(&[][..], |op| codec::data(buf, &op, next));
         if data.is_empty() {
-            return KfPart::default();
+            return raw::Part::default();
         }
-        KfPart { start: data.as_ptr().addr() - buf.as_ptr().addr(), length: data.len() }
+        raw::Part { start: data.as_ptr().addr() - buf.as_ptr().addr(), length: data.len() }
     }
 
-    fn write(&self, op: &KfOperation, data: &[u8], buf: &mut [u8]) -> KfWritten {
+    fn write(&self, op: &raw::Operation, data: &[u8], buf: &mut [u8]) -> raw::Written {
         let answer = match Operation::try_from(op) {
             Ok(op) => codec::write(&op, data, buf),
-            Err(library::UnknownCode) => Err(7),
+            Err(UnknownCode) => Err(7),
         };
         match answer {
-            Ok(length) => KfWritten { refusal: 0, length },
-            Err(number) => KfWritten { refusal: number.into(), length: 0 },
+            Ok(length) => raw::Written { refusal: 0, length },
+            Err(number) => raw::Written { refusal: number.into(), length: 0 },
         }
     }
 }
@@ -143,7 +147,7 @@ impl<L: Codec, R: Codec> Comparison<L, R> {
     }
 
     /// One reading, and for an operation its data and its writing back.
-    fn read(&mut self, buf: &[u8], at: usize) -> Result<KfReading, Box<Difference>> {
+    fn read(&mut self, buf: &[u8], at: usize) -> Result<raw::Reading, Box<Difference>> {
         let input = || format!("read at {at} of {:?}", Bytes(buf));
         let (left, right) = (self.left.read(buf, at), self.right.read(buf, at));
         let reading = agree("reading", &input, left, right)?;
@@ -159,8 +163,8 @@ impl<L: Codec, R: Codec> Comparison<L, R> {
     fn write_back(
         &mut self,
         piece: &[u8],
-        op: &KfOperation,
-        part: KfPart,
+        op: &raw::Operation,
+        part: raw::Part,
         at: usize,
     ) -> Result<(), Box<Difference>> {
         let start = part.start.saturating_sub(at);
@@ -195,9 +199,9 @@ impl<L: Codec, R: Codec> Comparison<L, R> {
     fn data(
         &mut self,
         buf: &[u8],
-        op: &KfOperation,
+        op: &raw::Operation,
         next: usize,
-    ) -> Result<KfPart, Box<Difference>> {
+    ) -> Result<raw::Part, Box<Difference>> {
         let input = || format!("data of {op:?} ending at {next} of {:?}", Bytes(buf));
         let (left, right) = (self.left.data(buf, op, next), self.right.data(buf, op, next));
         let part = agree("data", &input, left, right)?;
@@ -209,7 +213,7 @@ impl<L: Codec, R: Codec> Comparison<L, R> {
     /// written.
     fn write(
         &mut self,
-        op: &KfOperation,
+        op: &raw::Operation,
         data: &[u8],
         room: &[u8],
     ) -> Result<Vec<u8>, Box<Difference>> {

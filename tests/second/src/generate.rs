@@ -1,7 +1,8 @@
 //! Inputs for the comparison, all of them determined by a seed.
 
+use kettlefrost::raw;
+
 use crate::codec::{self, Operation, Rule};
-use crate::library::KfOperation;
 use crate::random::Random;
 
 /// One input.
@@ -13,9 +14,9 @@ pub enum Case {
     /// A buffer, read to its end.
     Walk { buf: Vec<u8> },
     /// The data of an operation that was not read there.
-    Data { buf: Vec<u8>, op: KfOperation, next: usize },
+    Data { buf: Vec<u8>, op: raw::Operation, next: usize },
     /// An operation, written over `room`.
-    Write { op: KfOperation, data: Vec<u8>, room: Vec<u8> },
+    Write { op: raw::Operation, data: Vec<u8>, room: Vec<u8> },
 }
 
 /// The codes of the ten kinds.
@@ -415,7 +416,7 @@ impl Generator {
         let whole = op.header_length() + op.data_length();
         let places = [whole, whole - 1, op.data_length(), buf.len(), self.place(buf.len())];
         let next = self.random.pick(&places);
-        let mut op = KfOperation::over(&op, self.noise());
+        let mut op = op.over(self.noise());
         if self.random.once_in(10) {
             op.code = self.unknown_code();
         }
@@ -448,7 +449,7 @@ impl Generator {
     }
 
     fn write_unknown(&mut self) -> Case {
-        let op = KfOperation { code: self.unknown_code(), ..self.noise() };
+        let op = raw::Operation { code: self.unknown_code(), ..self.noise() };
         let length = self.random.pick(&[0, 0, usize::from(op.length) % 100, 8]);
         let room = self.random.below(100);
         Case::Write { op, data: self.bytes(length), room: self.bytes(room) }
@@ -474,8 +475,8 @@ impl Generator {
         let shorter = self.random.below(whole);
         let lengths = [whole, whole, whole - 1, whole + 1, larger, larger, shorter, 0];
         let length = self.random.pick(&lengths);
-        let base = if self.random.once_in(4) { self.noise() } else { KfOperation::default() };
-        Case::Write { op: KfOperation::over(op, base), data, room: self.bytes(length) }
+        let base = if self.random.once_in(4) { self.noise() } else { raw::Operation::default() };
+        Case::Write { op: op.over(base), data, room: self.bytes(length) }
     }
 
     fn unknown_code(&mut self) -> u32 {
@@ -489,15 +490,11 @@ impl Generator {
     }
 
     /// Random values for the fields that a kind does not have.
-    fn noise(&mut self) -> KfOperation {
+    fn noise(&mut self) -> raw::Operation {
         let random = &mut self.random;
-        KfOperation {
-            code: random.word(),
-            id: random.word(),
-            word: random.word(),
-            length: random.word() as u16,
-            bytes: random.word().to_le_bytes(),
-        }
+        let [code, id, word, length] = [(); 4].map(|()| random.word());
+        let [first, second, third, fourth] = random.word().to_le_bytes();
+        raw::Operation { code, id, word, length: length as u16, first, second, third, fourth }
     }
 }
 

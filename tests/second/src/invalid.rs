@@ -5,7 +5,7 @@ use std::fmt;
 use crate::bus::{PENDING_CAPACITY, QUEUE_CAPACITY};
 use crate::codec::{self, Rule};
 use crate::generate::{Generator, BREAKABLE};
-use crate::lent::{NodeState, Slot, State, NODES};
+use crate::lent::{self, Slot, State, NODES};
 use crate::random::Random;
 
 const TRANSMITS: [u32; 3] = [codec::CAN_TRANSMIT, codec::FD_TRANSMIT, codec::XL_TRANSMIT];
@@ -75,7 +75,7 @@ impl Breaker {
         };
         let mut target = Target { node: self.random.below(attached), frames };
         match invalid {
-            Invalid::NodeCount(_) => state.nodes[attached..].fill(NodeState::NEW),
+            Invalid::NodeCount(_) => state.nodes[attached..].fill(lent::NEW_NODE),
             // The fifth will be in the first slot of the node behind.
             Invalid::FivePending => {
                 target.node = target.node.min(NODES - 2);
@@ -139,8 +139,8 @@ impl Breaker {
             }
             Invalid::Content(_, rule) => {
                 let Slot { owner, accepted, .. } = slots[place];
-                let op = slots[place].operation().expect("a frame was put there");
-                slots[place] = Slot::of(&self.generator.break_rule(op, rule), owner, accepted);
+                let op = lent::operation_in(&slots[place]).expect("a frame was put there");
+                slots[place] = lent::slot_of(&self.generator.break_rule(op, rule), owner, accepted);
             }
         }
     }
@@ -159,7 +159,7 @@ impl Breaker {
         slots: &mut [Slot],
     ) {
         let node = &mut state.nodes[target.node];
-        if node.is_bus_off() {
+        if lent::is_bus_off(node) {
             node.status = codec::ERROR_PASSIVE;
         }
         node.pending = target.frames as u8;
@@ -170,7 +170,7 @@ impl Breaker {
                 _ => self.random.pick(&TRANSMITS),
             };
             let op = self.generator.sound_of(code);
-            *slot = Slot::of(&op, target.node as u8, state.round);
+            *slot = lent::slot_of(&op, target.node as u8, state.round);
         }
     }
 }

@@ -13,6 +13,10 @@ use crate::bus::{LONGEST_BUFFER, PENDING_CAPACITY, QUEUE_CAPACITY};
 use crate::codec::{self, Operation};
 use crate::refusal;
 
+// The library's records: both buses work on the same memory. A layout is no rule.
+pub use kettlefrost::raw::{NodeState, Slot, State};
+pub use kettlefrost::Injection;
+
 pub const NODES: usize = 8;
 pub const SLOTS: usize = NODES * PENDING_CAPACITY;
 /// The most data that a frame has.
@@ -25,59 +29,6 @@ const FORMAT_ERROR_HEADER: usize = 10;
 /// Of Confirm and of Arbitration Lost.
 const CLOSING_LENGTH: usize = 12;
 const BUS_ERROR_LENGTH: usize = 15;
-
-/// Room for one pending frame (01: a place).
-///
-/// `kind` is the code of its Transmit, 0 in a slot that is free; the last four
-/// are its one-byte fields in their order.
-#[repr(C)]
-#[derive(Clone, Copy, Debug, Default, PartialEq, Eq)]
-pub struct Slot {
-    /// The round number when it was accepted.
-    pub accepted: u32,
-    pub id: u32,
-    pub af: u32,
-    pub length: u16,
-    pub kind: u8,
-    pub owner: u8,
-    pub first: u8,
-    pub second: u8,
-    pub third: u8,
-    pub fourth: u8,
-}
-
-#[repr(C)]
-#[derive(Clone, Copy, Debug, PartialEq, Eq)]
-pub struct NodeState {
-    /// CAN, CAN FD, CAN XL.
-    pub rates: [u32; 3],
-    /// Bytes in the queue.
-    pub fill: u16,
-    pub status: u8,
-    /// What happens to a frame that loses arbitration.
-    pub behaviour: u8,
-    /// How many frames are pending.
-    pub pending: u8,
-}
-
-#[repr(C)]
-#[derive(Clone, Copy, Debug, PartialEq, Eq)]
-pub struct State {
-    /// How many nodes are attached.
-    pub count: u32,
-    pub round: u32,
-    pub nodes: [NodeState; NODES],
-}
-
-const _: () = assert!(size_of::<Slot>() == 20 && size_of::<State>() == 168);
-
-/// An error to inject into a round.
-#[derive(Clone, Copy, Debug, PartialEq, Eq)]
-pub struct Injection {
-    pub code: u32,
-    /// The number of the node that detects the error.
-    pub detector: u32,
-}
 
 /// What a round answers.
 #[derive(Clone, Copy, Debug, PartialEq, Eq)]
@@ -94,7 +45,7 @@ pub fn start(slots: &mut [Slot], payload: &[u8], queues: &[u8], count: u32) -> R
         return Err(refusal::NODE_COUNT);
     }
     *slots = [Slot::default(); SLOTS];
-    Ok(State::new(count))
+    Ok(new_state(count))
 }
 
 /// Takes a buffer of operations from a node (01: handing in).
@@ -108,14 +59,14 @@ pub fn submit(
     buffer: &[u8],
 ) -> Result<(), u8> {
     let mut bus = Bus::over(state, slots, payload, queues)?;
-    if !bus.state.is_valid(bus.slots, |_, _| ()) {
+    if !is_valid(bus.state, bus.slots, |_, _| ()) {
         return Err(refusal::INVALID_STATE);
     }
-    let sender = bus.state.attached_number(node)?;
+    let sender = attached_number(bus.state, node)?;
     if buffer.len() > LONGEST_BUFFER {
         return Err(refusal::BUFFER_TOO_LARGE);
     }
-    bus.state.decide(sender, buffer)?;
+    decide(bus.state, sender, buffer)?;
     for step in steps(buffer) {
         bus.take(sender, step);
     }
@@ -136,10 +87,10 @@ pub fn round(
     let mut first = u64::MAX;
     let arbitrate =
         |place: usize, slot: &Slot| first = first.min(u64::from(slot.id) << 32 | place as u64);
-    if !bus.state.is_valid(bus.slots, arbitrate) {
+    if !is_valid(bus.state, bus.slots, arbitrate) {
         return Err(refusal::INVALID_STATE);
     }
-    if injection.is_some_and(|injection| !bus.state.can_inject(injection)) {
+    if injection.is_some_and(|injection| !can_inject(bus.state, injection)) {
         return Err(refusal::INJECTION);
     }
     if first == u64::MAX {
@@ -161,10 +112,10 @@ pub fn collect(
 ) -> Result<usize, u8> {
     let slots: &[Slot; SLOTS] = slots.try_into().map_err(|_| refusal::WRONG_MEMORY)?;
     check_sizes(payload, queues)?;
-    if !state.is_valid(slots, |_, _| ()) {
+    if !is_valid(state, slots, |_, _| ()) {
         return Err(refusal::INVALID_STATE);
     }
-    let number = state.attached_number(node)?;
+    let number = attached_number(state, node)?;
     let fill = &mut state.nodes[number].fill;
     let length = usize::from(*fill);
     let front = buffer.get_mut(..length).ok_or(refusal::NO_ROOM)?;
@@ -243,9 +194,9 @@ impl<'a> Bus<'a> {
     fn take(&mut self, sender: usize, step: Step) {
         let node = &mut self.state.nodes[sender];
         match step {
-            Step::Transmit { op, data } if !node.is_bus_off() => {
+            Step::Transmit { op, data } if !is_bus_off(node) => {
                 let place = sender * PENDING_CAPACITY + usize::from(node.pending);
-                self.slots[place] = Slot::of(&op, sender as u8, self.state.round);
+                self.slots[place] = slot_of(&op, sender as u8, self.state.round);
                 self.payload[place * SLOT_BYTES..][..data.len()].copy_from_slice(data);
                 node.pending += 1;
             }
@@ -255,11 +206,11 @@ impl<'a> Bus<'a> {
             Step::Configure { value, .. } => node.behaviour = value as u8,
             Step::Status(status) => {
                 node.status = status;
-                if node.is_bus_off() {
+                if is_bus_off(node) {
                     (node.pending, node.fill) = (0, 0);
                 }
             }
-            Step::Wakeup if !node.is_bus_off() => self.wake_up(sender),
+            Step::Wakeup if !is_bus_off(node) => self.wake_up(sender),
             Step::Reject(bytes) => {
                 let op = Operation::FormatError { length: bytes.len() as u16 };
                 let queue = &mut self.queues[sender * QUEUE_CAPACITY..][..QUEUE_CAPACITY];
@@ -281,10 +232,10 @@ impl<'a> Bus<'a> {
     #[inline]
     fn carry_out(&mut self, place: usize, injection: Option<Injection>) -> Result<Round, u8> {
         let slot = self.slots[place];
-        let op = slot.operation().ok_or(refusal::INVALID_STATE)?;
+        let op = operation_in(&slot).ok_or(refusal::INVALID_STATE)?;
         let sender = place / PENDING_CAPACITY;
         let before = self.state.round;
-        self.state.check_room(sender, &op, injection.is_some())?;
+        check_room(self.state, sender, &op, injection.is_some())?;
         let after = before.checked_add(1).ok_or(refusal::LAST_ROUND)?;
         match injection {
             None => self.deliver(place, &op),
@@ -345,8 +296,8 @@ impl<'a> Bus<'a> {
     fn discard_losers(&mut self) {
         let slots = self.slots.chunks_exact(PENDING_CAPACITY);
         let queues = self.queues.chunks_exact_mut(QUEUE_CAPACITY);
-        for ((node, slots), bytes) in self.state.attached_mut().iter_mut().zip(slots).zip(queues) {
-            if node.discards() {
+        for ((node, slots), bytes) in attached_mut(self.state).iter_mut().zip(slots).zip(queues) {
+            if discards(node) {
                 let mut queue = Queue { fill: &mut node.fill, bytes };
                 for slot in &slots[..node.pending.into()] {
                     queue.append(&Operation::ArbitrationLost { id: slot.id }, &[]);
@@ -380,221 +331,213 @@ fn listening<'a>(
     queues: &'a mut [u8; QUEUE_BYTES],
 ) -> impl Iterator<Item = (usize, Queue<'a>)> {
     let queues = queues.chunks_exact_mut(QUEUE_CAPACITY);
-    let nodes = state.attached_mut().iter_mut().zip(queues).enumerate();
+    let nodes = attached_mut(state).iter_mut().zip(queues).enumerate();
     nodes
-        .filter(|(_, (node, _))| !node.is_bus_off())
+        .filter(|(_, (node, _))| !is_bus_off(node))
         .map(|(number, (node, bytes))| (number, Queue { fill: &mut node.fill, bytes }))
 }
 
-impl Slot {
-    /// The slot of a Transmit.
-    #[inline]
-    pub fn of(op: &Operation, owner: u8, accepted: u32) -> Slot {
-        let slot = Slot { kind: op.code() as u8, owner, accepted, ..Slot::default() };
-        match *op {
-            Operation::CanTransmit { id, ide, rtr, length } => {
-                Slot { id, first: ide, second: rtr, length, ..slot }
-            }
-            Operation::FdTransmit { id, ide, brs, esi, length } => {
-                Slot { id, first: ide, second: brs, third: esi, length, ..slot }
-            }
-            Operation::XlTransmit { id, ide, sec, sdt, vcid, af, length } => {
-                Slot { id, af, first: ide, second: sec, third: sdt, fourth: vcid, length, ..slot }
-            }
-            _ => Slot::default(),
+/// The slot of a Transmit.
+#[inline]
+pub fn slot_of(op: &Operation, owner: u8, accepted: u32) -> Slot {
+    let slot = Slot { kind: op.code() as u8, owner, accepted, ..Slot::default() };
+    match *op {
+        Operation::CanTransmit { id, ide, rtr, length } => {
+            Slot { id, first: ide, second: rtr, length, ..slot }
         }
-    }
-
-    /// Whether it holds a Transmit that meets the content rules. By way of the
-    /// operation a full bus would take a seventh longer.
-    #[inline]
-    fn is_sound(&self) -> bool {
-        let largest = match self.first {
-            0 => codec::LARGEST_STANDARD_ID,
-            1 => codec::LARGEST_ID,
-            _ => return false,
-        };
-        // Rtr, Brs or Sec.
-        if self.id > largest || self.second > 1 {
-            return false;
+        Operation::FdTransmit { id, ide, brs, esi, length } => {
+            Slot { id, first: ide, second: brs, third: esi, length, ..slot }
         }
-        match self.kind.into() {
-            codec::CAN_TRANSMIT => self.length <= 8,
-            codec::FD_TRANSMIT => self.third <= 1 && codec::is_fd_length(self.length),
-            codec::XL_TRANSMIT => (1..=2_048).contains(&self.length),
-            _ => false,
+        Operation::XlTransmit { id, ide, sec, sdt, vcid, af, length } => {
+            Slot { id, af, first: ide, second: sec, third: sdt, fourth: vcid, length, ..slot }
         }
-    }
-
-    /// The Transmit that the slot holds.
-    #[inline]
-    pub fn operation(&self) -> Option<Operation> {
-        let Slot { id, af, length, first: ide, second, third, fourth, .. } = *self;
-        Some(match self.kind.into() {
-            codec::CAN_TRANSMIT => Operation::CanTransmit { id, ide, rtr: second, length },
-            codec::FD_TRANSMIT => {
-                Operation::FdTransmit { id, ide, brs: second, esi: third, length }
-            }
-            codec::XL_TRANSMIT => {
-                Operation::XlTransmit { id, ide, sec: second, sdt: third, vcid: fourth, af, length }
-            }
-            _ => return None,
-        })
+        _ => Slot::default(),
     }
 }
 
-impl NodeState {
-    pub const NEW: NodeState = NodeState {
-        rates: [500_000, 2_000_000, 10_000_000],
-        fill: 0,
-        status: codec::ERROR_ACTIVE,
-        behaviour: codec::BUFFER_AND_RETRANSMIT as u8,
-        pending: 0,
+/// Whether a slot holds a Transmit that meets the content rules. By way of the
+/// operation a full bus would take a seventh longer.
+#[inline]
+fn is_legal(slot: &Slot) -> bool {
+    let largest = match slot.first {
+        0 => codec::LARGEST_STANDARD_ID,
+        1 => codec::LARGEST_ID,
+        _ => return false,
     };
-
-    pub fn is_bus_off(&self) -> bool {
-        self.status == codec::BUS_OFF
+    // Rtr, Brs or Sec.
+    if slot.id > largest || slot.second > 1 {
+        return false;
     }
-
-    fn discards(&self) -> bool {
-        u32::from(self.behaviour) == codec::DISCARD_AND_NOTIFY
-    }
-
-    /// The bytes that the queue still has room for.
-    fn room(&self) -> usize {
-        QUEUE_CAPACITY - usize::from(self.fill)
-    }
-
-    /// Whether the entry, without the frames, is valid.
-    #[inline]
-    fn is_valid(&self) -> bool {
-        (1..=3).contains(&self.status)
-            && (1..=2).contains(&self.behaviour)
-            && !self.rates.contains(&0)
-            && usize::from(self.fill) <= QUEUE_CAPACITY
-            && usize::from(self.pending) <= PENDING_CAPACITY
-            && (!self.is_bus_off() || self.pending == 0)
+    match slot.kind.into() {
+        codec::CAN_TRANSMIT => slot.length <= 8,
+        codec::FD_TRANSMIT => slot.third <= 1 && codec::is_fd_length(slot.length),
+        codec::XL_TRANSMIT => (1..=2_048).contains(&slot.length),
+        _ => false,
     }
 }
 
-impl State {
-    /// The state of a new bus.
-    pub fn new(count: u32) -> State {
-        State { count, round: 0, nodes: [NodeState::NEW; NODES] }
-    }
-
-    /// Of a valid state.
-    fn attached(&self) -> &[NodeState] {
-        &self.nodes[..self.count as usize]
-    }
-
-    fn attached_mut(&mut self) -> &mut [NodeState] {
-        &mut self.nodes[..self.count as usize]
-    }
-
-    fn attached_number(&self, node: u32) -> Result<usize, u8> {
-        if node < self.count {
-            Ok(node as usize)
-        } else {
-            Err(refusal::NOT_ATTACHED)
+/// The Transmit that a slot holds.
+#[inline]
+pub fn operation_in(slot: &Slot) -> Option<Operation> {
+    let Slot { id, af, length, first: ide, second, third, fourth, .. } = *slot;
+    Some(match slot.kind.into() {
+        codec::CAN_TRANSMIT => Operation::CanTransmit { id, ide, rtr: second, length },
+        codec::FD_TRANSMIT => Operation::FdTransmit { id, ide, brs: second, esi: third, length },
+        codec::XL_TRANSMIT => {
+            Operation::XlTransmit { id, ide, sec: second, sdt: third, vcid: fourth, af, length }
         }
-    }
+        _ => return None,
+    })
+}
 
-    /// Whether state and slots are valid (01: sound). `each` is told of the
-    /// pending frames on the way. Nothing is asked of other nodes and slots.
-    #[inline(always)]
-    fn is_valid(&self, slots: &[Slot; SLOTS], mut each: impl FnMut(usize, &Slot)) -> bool {
-        if !(2..=8).contains(&self.count) {
+/// A node at the start.
+pub const NEW_NODE: NodeState = NodeState {
+    rates: [500_000, 2_000_000, 10_000_000],
+    fill: 0,
+    status: codec::ERROR_ACTIVE,
+    behaviour: codec::BUFFER_AND_RETRANSMIT as u8,
+    pending: 0,
+};
+
+pub fn is_bus_off(node: &NodeState) -> bool {
+    node.status == codec::BUS_OFF
+}
+
+fn discards(node: &NodeState) -> bool {
+    u32::from(node.behaviour) == codec::DISCARD_AND_NOTIFY
+}
+
+/// The bytes that the queue of a node still has room for.
+fn room(node: &NodeState) -> usize {
+    QUEUE_CAPACITY - usize::from(node.fill)
+}
+
+/// Whether the entry of a node, without the frames, is valid.
+#[inline]
+fn is_valid_entry(node: &NodeState) -> bool {
+    (1..=3).contains(&node.status)
+        && (1..=2).contains(&node.behaviour)
+        && !node.rates.contains(&0)
+        && usize::from(node.fill) <= QUEUE_CAPACITY
+        && usize::from(node.pending) <= PENDING_CAPACITY
+        && (!is_bus_off(node) || node.pending == 0)
+}
+
+/// The state of a new bus.
+pub fn new_state(count: u32) -> State {
+    State { count, round: 0, nodes: [NEW_NODE; NODES] }
+}
+
+/// Of a valid state.
+fn attached(state: &State) -> &[NodeState] {
+    &state.nodes[..state.count as usize]
+}
+
+fn attached_mut(state: &mut State) -> &mut [NodeState] {
+    &mut state.nodes[..state.count as usize]
+}
+
+fn attached_number(state: &State, node: u32) -> Result<usize, u8> {
+    if node < state.count {
+        Ok(node as usize)
+    } else {
+        Err(refusal::NOT_ATTACHED)
+    }
+}
+
+/// Whether state and slots are valid (01: sound). `each` is told of the
+/// pending frames on the way. Nothing is asked of other nodes and slots.
+#[inline(always)]
+fn is_valid(state: &State, slots: &[Slot; SLOTS], mut each: impl FnMut(usize, &Slot)) -> bool {
+    if !(2..=8).contains(&state.count) {
+        return false;
+    }
+    let mut entries = attached(state).iter().enumerate();
+    entries.all(|(number, node)| {
+        if !is_valid_entry(node) {
             return false;
         }
-        let mut entries = self.attached().iter().enumerate();
-        entries.all(|(number, node)| {
-            if !node.is_valid() {
-                return false;
-            }
-            let start = number * PENDING_CAPACITY;
-            let frames = &slots[start..start + PENDING_CAPACITY][..node.pending.into()];
-            let mut earliest = 0;
-            frames.iter().enumerate().all(|(place, slot)| {
-                each(start + place, slot);
-                let in_order = earliest <= slot.accepted && slot.accepted <= self.round;
-                earliest = slot.accepted;
-                in_order && usize::from(slot.owner) == number && slot.is_sound()
-            })
+        let start = number * PENDING_CAPACITY;
+        let frames = &slots[start..start + PENDING_CAPACITY][..node.pending.into()];
+        let mut earliest = 0;
+        frames.iter().enumerate().all(|(place, slot)| {
+            each(start + place, slot);
+            let in_order = earliest <= slot.accepted && slot.accepted <= state.round;
+            earliest = slot.accepted;
+            in_order && usize::from(slot.owner) == number && is_legal(slot)
         })
-    }
+    })
+}
 
-    /// Goes through a buffer and gives the refusal of the first step that
-    /// fails, if one does.
-    #[inline(always)]
-    fn decide(&self, sender: usize, buffer: &[u8]) -> Result<(), u8> {
-        let node = &self.nodes[sender];
-        let (mut bus_off, mut pending) = (node.is_bus_off(), node.pending);
-        let mut room = node.room();
-        let mut wakeups = None;
-        for step in steps(buffer) {
-            match step {
-                Step::Transmit { .. } if !bus_off => {
-                    if usize::from(pending) == PENDING_CAPACITY {
-                        return Err(refusal::FOUR_PENDING);
-                    }
-                    pending += 1;
+/// Goes through a buffer and gives the refusal of the first step that
+/// fails, if one does.
+#[inline(always)]
+fn decide(state: &State, sender: usize, buffer: &[u8]) -> Result<(), u8> {
+    let node = &state.nodes[sender];
+    let (mut bus_off, mut pending) = (is_bus_off(node), node.pending);
+    let mut room = room(node);
+    let mut wakeups = None;
+    for step in steps(buffer) {
+        match step {
+            Step::Transmit { .. } if !bus_off => {
+                if usize::from(pending) == PENDING_CAPACITY {
+                    return Err(refusal::FOUR_PENDING);
                 }
-                Step::Status(status) => {
-                    bus_off = status == codec::BUS_OFF;
-                    if bus_off {
-                        (pending, room) = (0, QUEUE_CAPACITY);
-                    }
-                }
-                Step::Wakeup if !bus_off => {
-                    let left: &mut usize = wakeups.get_or_insert_with(|| self.wakeup_room(sender));
-                    *left = left.checked_sub(1).ok_or(refusal::QUEUE_FULL)?;
-                }
-                Step::Reject(bytes) => {
-                    let length = FORMAT_ERROR_HEADER + bytes.len();
-                    room = room.checked_sub(length).ok_or(refusal::QUEUE_FULL)?;
-                }
-                _ => {}
+                pending += 1;
             }
+            Step::Status(status) => {
+                bus_off = status == codec::BUS_OFF;
+                if bus_off {
+                    (pending, room) = (0, QUEUE_CAPACITY);
+                }
+            }
+            Step::Wakeup if !bus_off => {
+                let left: &mut usize = wakeups.get_or_insert_with(|| wakeup_room(state, sender));
+                *left = left.checked_sub(1).ok_or(refusal::QUEUE_FULL)?;
+            }
+            Step::Reject(bytes) => {
+                let length = FORMAT_ERROR_HEADER + bytes.len();
+                room = room.checked_sub(length).ok_or(refusal::QUEUE_FULL)?;
+            }
+            _ => {}
         }
+    }
+    Ok(())
+}
+
+/// How many Wakeups of a node the queues of the others have room for.
+fn wakeup_room(state: &State, sender: usize) -> usize {
+    let others = attached(state).iter().enumerate();
+    let listening = others.filter(|(number, node)| *number != sender && !is_bus_off(node));
+    listening.map(|(_, node)| room(node) / WAKEUP_LENGTH).min().unwrap_or(usize::MAX)
+}
+
+fn can_inject(state: &State, injection: Injection) -> bool {
+    u8::try_from(injection.code).is_ok_and(codec::is_error_code)
+        && attached_number(state, injection.detector)
+            .is_ok_and(|number| !is_bus_off(&state.nodes[number]))
+}
+
+/// Whether each queue can hold all that a round owes it.
+#[inline]
+fn check_room(state: &State, sender: usize, op: &Operation, errored: bool) -> Result<(), u8> {
+    let (own, other) = if errored {
+        (BUS_ERROR_LENGTH, BUS_ERROR_LENGTH)
+    } else {
+        (CLOSING_LENGTH, op.header_length() + op.data_length())
+    };
+    let fits = |(number, node): (usize, &NodeState)| {
+        if is_bus_off(node) {
+            return true;
+        }
+        let is_sender = number == sender;
+        let losers = usize::from(node.pending) - usize::from(is_sender);
+        let notices = if discards(node) { losers * CLOSING_LENGTH } else { 0 };
+        (if is_sender { own } else { other }) + notices <= room(node)
+    };
+    if attached(state).iter().enumerate().all(fits) {
         Ok(())
-    }
-
-    /// How many Wakeups of a node the queues of the others have room for.
-    fn wakeup_room(&self, sender: usize) -> usize {
-        let others = self.attached().iter().enumerate();
-        let listening = others.filter(|(number, node)| *number != sender && !node.is_bus_off());
-        listening.map(|(_, node)| node.room() / WAKEUP_LENGTH).min().unwrap_or(usize::MAX)
-    }
-
-    fn can_inject(&self, injection: Injection) -> bool {
-        u8::try_from(injection.code).is_ok_and(codec::is_error_code)
-            && self
-                .attached_number(injection.detector)
-                .is_ok_and(|number| !self.nodes[number].is_bus_off())
-    }
-
-    /// Whether each queue can hold all that a round owes it.
-    #[inline]
-    fn check_room(&self, sender: usize, op: &Operation, errored: bool) -> Result<(), u8> {
-        let (own, other) = if errored {
-            (BUS_ERROR_LENGTH, BUS_ERROR_LENGTH)
-        } else {
-            (CLOSING_LENGTH, op.header_length() + op.data_length())
-        };
-        let fits = |(number, node): (usize, &NodeState)| {
-            if node.is_bus_off() {
-                return true;
-            }
-            let is_sender = number == sender;
-            let losers = usize::from(node.pending) - usize::from(is_sender);
-            let notices = if node.discards() { losers * CLOSING_LENGTH } else { 0 };
-            (if is_sender { own } else { other }) + notices <= node.room()
-        };
-        if self.attached().iter().enumerate().all(fits) {
-            Ok(())
-        } else {
-            Err(refusal::QUEUE_FULL)
-        }
+    } else {
+        Err(refusal::QUEUE_FULL)
     }
 }

@@ -2,7 +2,8 @@
 //! bus, bus over lent memory and register, and the means to compare codec, bus
 //! and register with the proved library, call by call.
 //!
-//! The folder of `libkettlefrost.a` is named by `KETTLEFROST_LIB`; then
+//! The two meet in the crate `kettlefrost`, which links the library: what is compared
+//! and measured is what a user of Rust calls.
 //!
 //! - `cargo test` holds codec, buses and register against W1 to W10 and the easy
 //!   errors, and demand 3 against random sessions,
@@ -11,10 +12,6 @@
 //! - `cargo run --release --bin sessions` compares the buses on random sessions, and
 //!   holds demand 3 with the registers of their nodes,
 //! - `cargo run --release --bin bench` measures both sides against each other.
-//!
-//! With the feature `bus`, a default one, the library's calls of the bus and of the
-//! register take part in the last three; without it the second program's register
-//! stands in for the library's.
 
 pub mod bus;
 pub mod bus_cases;
@@ -29,11 +26,11 @@ pub mod counts;
 pub mod generate;
 pub mod invalid;
 pub mod lent;
-pub mod library;
 pub mod memory;
 pub mod node_registers;
 pub mod plants;
 pub mod random;
+pub mod records;
 pub mod refusal;
 pub mod register;
 pub mod register_cases;

@@ -1,14 +1,13 @@
 //! A state with the memory lent for it, the calls on both, and what a plain bus
 //! reads from them.
 
+use kettlefrost::raw;
+
 use crate::bus::{self, Bus, QUEUE_CAPACITY};
 use crate::by_value;
 use crate::lent::{
-    Injection, NodeState, Slot, State, PAYLOAD_BYTES, QUEUE_BYTES, SLOTS, SLOT_BYTES,
+    self, Injection, NodeState, Slot, State, PAYLOAD_BYTES, QUEUE_BYTES, SLOTS, SLOT_BYTES,
 };
-#[cfg(feature = "bus")]
-use crate::library;
-use crate::library::KfAnswer;
 use crate::session;
 
 /// The largest buffer that a queue is collected to.
@@ -69,14 +68,14 @@ impl Call {
 /// A bus over state and lent memory. The state of the answer is not yet that of
 /// the memory.
 pub trait Calls {
-    fn play(&self, memory: &mut Memory, sizes: Sizes, call: &Call) -> KfAnswer;
+    fn play(&self, memory: &mut Memory, sizes: Sizes, call: &Call) -> raw::Answer;
 }
 
 /// The calls of a module in the library's form.
 macro_rules! calls_of {
     ($side:ident, $module:ident) => {
         impl Calls for $side {
-            fn play(&self, memory: &mut Memory, sizes: Sizes, call: &Call) -> KfAnswer {
+            fn play(&self, memory: &mut Memory, sizes: Sizes, call: &Call) -> raw::Answer {
                 let Memory { state, slots, payload, queues, buffer } = memory;
                 let slots = &mut slots[..sizes.slots];
                 let payload = &mut payload[..sizes.payload];
@@ -105,17 +104,15 @@ pub struct Second;
 calls_of!(Second, by_value);
 
 /// The proved library.
-#[cfg(feature = "bus")]
 pub struct Library;
 
-#[cfg(feature = "bus")]
-calls_of!(Library, library);
+calls_of!(Library, raw);
 
 impl Memory {
     /// Memory that nothing is in yet.
     pub fn new() -> Memory {
         Memory {
-            state: State::new(0),
+            state: lent::new_state(0),
             slots: vec![Slot::default(); SLOTS + 1],
             payload: vec![0; PAYLOAD_BYTES + 1],
             queues: vec![0; QUEUE_BYTES + 1],
@@ -188,7 +185,7 @@ impl Memory {
     fn holds(&self, place: usize, frame: &bus::Frame) -> bool {
         let slot = &self.slots[place];
         let data = &self.payload[place * SLOT_BYTES..][..slot.length.into()];
-        slot.operation() == Some(frame.op)
+        lent::operation_in(slot) == Some(frame.op)
             && slot.accepted == frame.accepted
             && frame.bytes[frame.op.header_length()..] == *data
     }

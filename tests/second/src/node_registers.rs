@@ -9,17 +9,18 @@
 
 use std::fmt;
 
+use kettlefrost::raw;
+
 use crate::bus::PENDING_CAPACITY;
 use crate::codec;
-use crate::library::{KfAnswer, KfRegister};
 use crate::memory::{Call, Memory};
 use crate::register::{closed_id, Register, REGISTER_CAPACITY};
-use crate::registers::{RegisterCall, Registers};
+use crate::registers::{open_ids, RegisterCall, Registers};
 
 /// The registers of a session's nodes, and beside each the second program's own.
 pub struct NodeRegisters {
     calls: Box<dyn Registers>,
-    kept: Vec<KfRegister>,
+    kept: Vec<raw::Register>,
     own: Vec<Register>,
     pub counts: RegisterCounts,
 }
@@ -56,7 +57,7 @@ impl NodeRegisters {
 
     /// Takes a call that left this answer and this memory to the register of
     /// its node; says what is wrong then, unless nothing is.
-    pub fn after(&mut self, memory: &Memory, call: &Call, answer: &KfAnswer) -> Option<String> {
+    pub fn after(&mut self, memory: &Memory, call: &Call, answer: &raw::Answer) -> Option<String> {
         let refused = match *call {
             _ if answer.number != 0 => None,
             Call::Submit { node, ref buffer } => {
@@ -92,7 +93,7 @@ impl NodeRegisters {
         (0..self.kept.len()).find_map(|node| {
             self.wrong_count(memory, node).or_else(|| {
                 let (kept, own) = (&self.kept[node], &self.own[node]);
-                let differs = *kept != KfRegister::of(own);
+                let differs = *kept != raw::Register::from(own);
                 differs.then(|| format!("register of node {node}: {kept:?}, own register {own:?}"))
             })
         })
@@ -102,7 +103,7 @@ impl NodeRegisters {
     /// pending, or closed by what waits in the queue. Both sides are sorted, so
     /// each number is counted by the length of its run.
     fn wrong_count(&mut self, memory: &Memory, node: usize) -> Option<String> {
-        let Some(open) = self.kept[node].open() else {
+        let Some(open) = open_ids(&self.kept[node]) else {
             return Some(format!("register of node {node}: count {}", self.kept[node].count));
         };
         let mut open = open.to_vec();

@@ -1,14 +1,15 @@
 //! Wrong codecs, to see that the comparison finds them. Each is the second
 //! codec with one kind of answer altered.
 
+use kettlefrost::raw;
+
 use crate::comparison::{Codec, Second};
-use crate::library::{KfOperation, KfPart, KfReading, KfWritten};
 
 use Alteration::{Data, Read, Write};
 
-type ReadAlteration = fn(&[u8], usize, &mut KfReading);
-type DataAlteration = fn(&KfOperation, &mut KfPart);
-type WriteAlteration = fn(&KfOperation, &[u8], &mut [u8], &mut KfWritten);
+type ReadAlteration = fn(&[u8], usize, &mut raw::Reading);
+type DataAlteration = fn(&raw::Operation, &mut raw::Part);
+type WriteAlteration = fn(&raw::Operation, &[u8], &mut [u8], &mut raw::Written);
 
 /// A change of an honest answer.
 #[derive(Clone, Copy)]
@@ -19,7 +20,7 @@ pub enum Alteration {
 }
 
 impl Codec for Alteration {
-    fn read(&self, buf: &[u8], at: usize) -> KfReading {
+    fn read(&self, buf: &[u8], at: usize) -> raw::Reading {
         let mut reading = Second.read(buf, at);
         if let Alteration::Read(alter) = self {
             alter(buf, at, &mut reading);
@@ -27,7 +28,7 @@ impl Codec for Alteration {
         reading
     }
 
-    fn data(&self, buf: &[u8], op: &KfOperation, next: usize) -> KfPart {
+    fn data(&self, buf: &[u8], op: &raw::Operation, next: usize) -> raw::Part {
         let mut part = Second.data(buf, op, next);
         if let Alteration::Data(alter) = self {
             alter(op, &mut part);
@@ -35,7 +36,7 @@ impl Codec for Alteration {
         part
     }
 
-    fn write(&self, op: &KfOperation, data: &[u8], buf: &mut [u8]) -> KfWritten {
+    fn write(&self, op: &raw::Operation, data: &[u8], buf: &mut [u8]) -> raw::Written {
         let mut written = Second.write(op, data, buf);
         if let Alteration::Write(alter) = self {
             alter(op, data, buf, &mut written);
@@ -75,7 +76,7 @@ fn rest(buf: &[u8], at: usize) -> &[u8] {
 }
 
 /// Takes a fault 5 of this code back if `value` stands at `place`.
-fn accept(buf: &[u8], at: usize, reading: &mut KfReading, code: u8, place: usize, value: &[u8]) {
+fn accept(buf: &[u8], at: usize, reading: &mut raw::Reading, code: u8, place: usize, value: &[u8]) {
     let found = rest(buf, at).get(place..place + value.len());
     if reading.fault == 5 && buf[at] == code && found == Some(value) {
         reading.fault = 0;
@@ -83,92 +84,92 @@ fn accept(buf: &[u8], at: usize, reading: &mut KfReading, code: u8, place: usize
     }
 }
 
-fn accept_2048(buf: &[u8], at: usize, reading: &mut KfReading) {
+fn accept_2048(buf: &[u8], at: usize, reading: &mut raw::Reading) {
     accept(buf, at, reading, 0x10, 8, &[0, 8, 0, 0, 0]);
 }
 
-fn unknown_code_first(buf: &[u8], at: usize, reading: &mut KfReading) {
+fn unknown_code_first(buf: &[u8], at: usize, reading: &mut raw::Reading) {
     if reading.fault == 2 && rest(buf, at).get(1..4) != Some(&[0, 0, 0]) {
         reading.fault = 3;
     }
 }
 
-fn renumber(reading: &mut KfReading, from: u32, to: u32) {
+fn renumber(reading: &mut raw::Reading, from: u32, to: u32) {
     if reading.fault == from {
         reading.fault = to;
     }
 }
 
-fn content_first(buf: &[u8], at: usize, reading: &mut KfReading) {
+fn content_first(buf: &[u8], at: usize, reading: &mut raw::Reading) {
     let piece = rest(buf, at);
     if piece.first() == Some(&0x10) && piece.get(12) > Some(&1) {
         renumber(reading, 4, 5);
     }
 }
 
-fn kind_as_content(buf: &[u8], at: usize, reading: &mut KfReading) {
+fn kind_as_content(buf: &[u8], at: usize, reading: &mut raw::Reading) {
     let piece = rest(buf, at);
     if piece.first() == Some(&0x40) && matches!(piece.get(8), Some(0 | 5..)) {
         renumber(reading, 4, 5);
     }
 }
 
-fn stated_length(buf: &[u8], at: usize, reading: &mut KfReading) {
+fn stated_length(buf: &[u8], at: usize, reading: &mut raw::Reading) {
     if reading.fault == 2 {
         reading.next = at + usize::from(buf[at + 4]);
     }
 }
 
-fn wrapped_position(_: &[u8], at: usize, reading: &mut KfReading) {
+fn wrapped_position(_: &[u8], at: usize, reading: &mut raw::Reading) {
     if at.checked_add(8).is_none() {
         (reading.end, reading.fault) = (0, 1);
     }
 }
 
-fn swap_id(op: &mut KfOperation) {
+fn swap_id(op: &mut raw::Operation) {
     op.id = op.id.swap_bytes();
 }
 
-fn foreign_field(_: &[u8], _: usize, reading: &mut KfReading) {
-    reading.operation.bytes[2] |= reading.operation.bytes[1];
+fn foreign_field(_: &[u8], _: usize, reading: &mut raw::Reading) {
+    reading.operation.third |= reading.operation.second;
 }
 
 fn one_if(condition: bool, length: usize) -> usize {
     usize::from(condition && length != 0)
 }
 
-fn narrow_behaviour(op: &KfOperation, _: &[u8], _: &mut [u8], written: &mut KfWritten) {
-    if op.code == 0x40 && op.bytes[0] == 4 && op.word == 257 {
-        *written = KfWritten { refusal: 0, length: 10 };
+fn narrow_behaviour(op: &raw::Operation, _: &[u8], _: &mut [u8], written: &mut raw::Written) {
+    if op.code == 0x40 && op.first == 4 && op.word == 257 {
+        *written = raw::Written { refusal: 0, length: 10 };
     }
 }
 
-fn small_buffer_first(_: &KfOperation, _: &[u8], buf: &mut [u8], written: &mut KfWritten) {
+fn small_buffer_first(_: &raw::Operation, _: &[u8], buf: &mut [u8], written: &mut raw::Written) {
     if written.refusal == 7 && buf.len() < 8 {
         written.refusal = 11;
     }
 }
 
-fn narrow_data_length(op: &KfOperation, data: &[u8], _: &mut [u8], written: &mut KfWritten) {
+fn narrow_data_length(op: &raw::Operation, data: &[u8], _: &mut [u8], written: &mut raw::Written) {
     if op.code == 0x01 && data.len() > 65_535 && data.len() as u16 == op.length {
-        *written = KfWritten { refusal: 0, length: 10 + data.len() };
+        *written = raw::Written { refusal: 0, length: 10 + data.len() };
     }
 }
 
-fn write_past(_: &KfOperation, _: &[u8], buf: &mut [u8], written: &mut KfWritten) {
+fn write_past(_: &raw::Operation, _: &[u8], buf: &mut [u8], written: &mut raw::Written) {
     if let (0, Some(byte)) = (written.refusal, buf.get_mut(written.length)) {
         *byte = !*byte;
     }
 }
 
-fn change_on_refusal(_: &KfOperation, _: &[u8], buf: &mut [u8], written: &mut KfWritten) {
+fn change_on_refusal(_: &raw::Operation, _: &[u8], buf: &mut [u8], written: &mut raw::Written) {
     if let (11, Some(byte)) = (written.refusal, buf.first_mut()) {
         *byte = !*byte;
     }
 }
 
-fn write_baud_rate_0(op: &KfOperation, data: &[u8], _: &mut [u8], written: &mut KfWritten) {
-    if op.code == 0x40 && matches!(op.bytes[0], 1..=3) && op.word == 0 && data.is_empty() {
-        *written = KfWritten { refusal: 0, length: 13 };
+fn write_baud_rate_0(op: &raw::Operation, data: &[u8], _: &mut [u8], written: &mut raw::Written) {
+    if op.code == 0x40 && matches!(op.first, 1..=3) && op.word == 0 && data.is_empty() {
+        *written = raw::Written { refusal: 0, length: 13 };
     }
 }

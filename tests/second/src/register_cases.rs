@@ -1,12 +1,13 @@
 //! Registers and buffers for the register's calls, drawn with the register in
 //! view: an unseen one would seldom be filled, or closed, to the last ID.
 
+use kettlefrost::raw;
+
 use crate::codec::{self, Operation};
 use crate::generate::Generator;
-use crate::library::KfRegister;
 use crate::random::Random;
 use crate::register::REGISTER_CAPACITY;
-use crate::registers::RegisterCall;
+use crate::registers::{open_ids, RegisterCall};
 
 /// The rule of validity (01: sound) that a register breaks.
 #[derive(Clone, Copy, Debug, PartialEq, Eq, PartialOrd, Ord)]
@@ -33,7 +34,7 @@ impl Invalid {
 
 /// A call of the register.
 pub struct Case {
-    pub register: KfRegister,
+    pub register: raw::Register,
     pub call: RegisterCall,
     pub buffer: Vec<u8>,
     /// The one rule that the register was made to break.
@@ -59,7 +60,7 @@ impl RegisterCases {
     }
 
     /// A call on the register that the last one handed back, or on another.
-    pub fn case(&mut self, last: &KfRegister) -> Case {
+    pub fn case(&mut self, last: &raw::Register) -> Case {
         let (register, invalid) = match self.random.below(32) {
             0 => (self.any_register(), None),
             1..5 => self.invalid_register(),
@@ -72,12 +73,12 @@ impl RegisterCases {
 
     // Registers.
 
-    fn any_register(&mut self) -> KfRegister {
+    fn any_register(&mut self) -> raw::Register {
         let ids = std::array::from_fn(|_| self.random.word());
-        KfRegister { ids, count: self.random.word(), off: self.random.edge(&[0]) }
+        raw::Register { ids, count: self.random.word(), off: self.random.edge(&[0]) }
     }
 
-    fn valid_register(&mut self) -> KfRegister {
+    fn valid_register(&mut self) -> raw::Register {
         let count = match self.random.below(4) {
             0 => self.random.below(REGISTER_CAPACITY + 1),
             _ => self.random.pick(&COUNTS),
@@ -86,7 +87,7 @@ impl RegisterCases {
     }
 
     /// A valid register with so many IDs open, and anything past them.
-    fn register_with(&mut self, count: usize) -> KfRegister {
+    fn register_with(&mut self, count: usize) -> raw::Register {
         let mut ids = [0; REGISTER_CAPACITY];
         if self.random.once_in(2) {
             ids = std::array::from_fn(|_| self.random.word());
@@ -94,11 +95,11 @@ impl RegisterCases {
         ids[..count].fill_with(|| self.id());
         let bus_off = count == 0 && self.random.once_in(2);
         let off = if bus_off { self.random.pick(&OFF) } else { 0 };
-        KfRegister { ids, count: count as u32, off }
+        raw::Register { ids, count: count as u32, off }
     }
 
     /// A register that breaks one rule.
-    fn invalid_register(&mut self) -> (KfRegister, Option<Invalid>) {
+    fn invalid_register(&mut self) -> (raw::Register, Option<Invalid>) {
         let count = match self.random.below(3) {
             0 => self.random.pick(&[1, 2, 345]),
             _ => 1 + self.random.below(REGISTER_CAPACITY),
@@ -132,8 +133,8 @@ impl RegisterCases {
     // Buffers.
 
     /// A buffer, and mostly the call for which it is of use.
-    fn buffer(&mut self, register: &KfRegister) -> (RegisterCall, Vec<u8>) {
-        let open = register.open().unwrap_or(&register.ids);
+    fn buffer(&mut self, register: &raw::Register) -> (RegisterCall, Vec<u8>) {
+        let open = open_ids(register).unwrap_or(&register.ids);
         let calls = [RegisterCall::Enter, RegisterCall::Read];
         let any = self.random.pick(&calls);
         let other = self.random.once_in(8);

@@ -3,21 +3,22 @@
 
 use std::fmt;
 
+use kettlefrost::raw;
+
 use crate::codec::{self, Operation};
 use crate::counts::Counts;
 use crate::generate::CODES;
-use crate::library::{KfRegister, KfRegisterAnswer};
 use crate::memory::Second;
 use crate::register::{closed_id, REGISTER_CAPACITY};
 use crate::register_cases::{Case, Invalid, RegisterCases};
-use crate::registers::{RegisterCall, Registers};
+use crate::registers::{open_ids, RegisterCall, Registers};
 
 /// A call that two registers answer in different ways.
 #[derive(Debug)]
 pub struct RegisterDifference {
     call: String,
-    expected: KfRegisterAnswer,
-    given: KfRegisterAnswer,
+    expected: raw::RegisterAnswer,
+    given: raw::RegisterAnswer,
 }
 
 impl fmt::Display for RegisterDifference {
@@ -58,7 +59,7 @@ pub enum Outcome {
 /// A register beside the second one, and the count of what they were seen to do.
 pub struct RegisterComparison {
     other: Box<dyn Registers>,
-    last: KfRegister,
+    last: raw::Register,
     rows: Counts<Outcome>,
     calls: u64,
 }
@@ -83,7 +84,7 @@ impl RegisterComparison {
     pub fn run(&mut self, seed: u64, calls: u64) -> Result<(), Box<RegisterDifference>> {
         let (expected, given) = (Second.new_register(), self.other.new_register());
         let [expected, given] =
-            [expected, given].map(|register| KfRegisterAnswer { number: 0, register });
+            [expected, given].map(|register| raw::RegisterAnswer { number: 0, register });
         agree(|| "new".to_string(), expected, given)?;
         let mut cases = RegisterCases::new(seed);
         while self.calls < calls {
@@ -104,7 +105,7 @@ impl RegisterComparison {
         Ok(())
     }
 
-    fn count(&mut self, case: &Case, answer: &KfRegisterAnswer) {
+    fn count(&mut self, case: &Case, answer: &raw::RegisterAnswer) {
         let Case { register, call, ref buffer, invalid } = *case;
         self.rows.count(Outcome::Answered(call, answer.number));
         if buffer.is_empty() {
@@ -113,7 +114,7 @@ impl RegisterComparison {
         if let Some(invalid) = invalid {
             self.rows.count(Outcome::Invalid(call, invalid));
         }
-        let Some(open) = register.open() else { return };
+        let Some(open) = open_ids(&register) else { return };
         let rest = register.ids[open.len()..].iter().any(|&id| id != 0);
         if answer.number != 0 {
             if rest {
@@ -186,8 +187,8 @@ const BUS_OFF: Operation = Operation::Status { status: codec::BUS_OFF };
 
 fn agree(
     call: impl FnOnce() -> String,
-    expected: KfRegisterAnswer,
-    given: KfRegisterAnswer,
+    expected: raw::RegisterAnswer,
+    given: raw::RegisterAnswer,
 ) -> Result<(), Box<RegisterDifference>> {
     if expected == given {
         Ok(())

@@ -1,8 +1,9 @@
 //! Wrong registers, to see that the comparison finds them. Each is the second
 //! register with one kind of answer altered.
 
+use kettlefrost::raw;
+
 use crate::codec::{self, Operation};
-use crate::library::{KfRegister, KfRegisterAnswer};
 use crate::memory::Second;
 use crate::registers::{RegisterCall, Registers};
 
@@ -10,10 +11,10 @@ use RegisterCall::{Enter, Read};
 
 /// A call that the second register has answered.
 pub struct Played<'a> {
-    before: &'a KfRegister,
+    before: &'a raw::Register,
     call: RegisterCall,
     buffer: &'a [u8],
-    answer: &'a mut KfRegisterAnswer,
+    answer: &'a mut raw::RegisterAnswer,
 }
 
 /// A change of an honest answer.
@@ -23,11 +24,16 @@ pub type Alteration = fn(&mut Played);
 pub struct PlantedRegister(pub Alteration);
 
 impl Registers for PlantedRegister {
-    fn new_register(&self) -> KfRegister {
+    fn new_register(&self) -> raw::Register {
         Second.new_register()
     }
 
-    fn play(&self, register: &KfRegister, call: RegisterCall, buffer: &[u8]) -> KfRegisterAnswer {
+    fn play(
+        &self,
+        register: &raw::Register,
+        call: RegisterCall,
+        buffer: &[u8],
+    ) -> raw::RegisterAnswer {
         let mut answer = Second.play(register, call, buffer);
         self.0(&mut Played { before: register, call, buffer, answer: &mut answer });
         answer
@@ -81,7 +87,7 @@ impl Played<'_> {
 
     /// Answers for another register and another buffer instead. A refusal still
     /// hands back the register as it was.
-    fn instead(&mut self, register: &KfRegister, buffer: &[u8]) {
+    fn instead(&mut self, register: &raw::Register, buffer: &[u8]) {
         *self.answer = Second.play(register, self.call, buffer);
         if self.answer.number != 0 {
             self.answer.register = *self.before;
@@ -146,7 +152,7 @@ fn remove_last(played: &mut Played) {
 
 fn enter_while_bus_off(played: &mut Played) {
     if played.is(Enter, 0) && played.before.off != 0 {
-        played.instead(&KfRegister { off: 0, ..*played.before }, played.buffer);
+        played.instead(&raw::Register { off: 0, ..*played.before }, played.buffer);
     }
 }
 
@@ -178,7 +184,7 @@ fn take_346(played: &mut Played) {
 
 fn refuse_345(played: &mut Played) {
     if played.is(Enter, 0) && played.answer.register.count == 345 && played.before.count < 345 {
-        *played.answer = KfRegisterAnswer { number: 12, register: *played.before };
+        *played.answer = raw::RegisterAnswer { number: 12, register: *played.before };
     }
 }
 
@@ -194,7 +200,7 @@ fn note_collected_status(played: &mut Played) {
     let bus_off = Ok(Operation::Status { status: codec::BUS_OFF });
     let mut operations = codec::operations(played.buffer);
     if played.is(Read, 0) && operations.any(|(op, _)| op == bus_off) {
-        played.answer.register = KfRegister { off: 1, ..Second.new_register() };
+        played.answer.register = raw::Register { off: 1, ..Second.new_register() };
     }
 }
 
@@ -207,7 +213,7 @@ fn steps_before_refusal(played: &mut Played) {
     }
 }
 
-fn clear_rest(register: &mut KfRegister) {
+fn clear_rest(register: &mut raw::Register) {
     let count = register.count as usize;
     register.ids.iter_mut().skip(count).for_each(|id| *id = 0);
 }
@@ -235,21 +241,21 @@ fn keep_off(played: &mut Played) {
 
 fn only_one_is_off(played: &mut Played) {
     let off = u32::from(played.before.off == 1);
-    played.instead(&KfRegister { off, ..*played.before }, played.buffer);
+    played.instead(&raw::Register { off, ..*played.before }, played.buffer);
 }
 
 fn low(id: u32) -> u32 {
     id & codec::LARGEST_ID
 }
 
-fn mask_last(register: &mut KfRegister) {
+fn mask_last(register: &mut raw::Register) {
     if let Some(last) = register.ids.iter_mut().take(register.count as usize).last() {
         *last &= codec::LARGEST_ID;
     }
 }
 
 /// A register that is not valid is taken for one that is.
-fn unasked(played: &mut Played, mend: fn(&mut KfRegister)) {
+fn unasked(played: &mut Played, mend: fn(&mut raw::Register)) {
     if played.answer.number == 3 {
         let mut register = *played.before;
         mend(&mut register);
@@ -259,6 +265,6 @@ fn unasked(played: &mut Played, mend: fn(&mut KfRegister)) {
 
 fn ask_rest(played: &mut Played) {
     if played.before.ids.iter().any(|&id| id > codec::LARGEST_ID) {
-        *played.answer = KfRegisterAnswer { number: 3, register: *played.before };
+        *played.answer = raw::RegisterAnswer { number: 3, register: *played.before };
     }
 }

@@ -1,12 +1,9 @@
 //! The calls of the register in the library's form: the register by value, and
 //! one record as the answer.
 
-#[cfg(feature = "bus")]
-use crate::library;
-use crate::library::{KfRegister, KfRegisterAnswer};
-#[cfg(feature = "bus")]
-use crate::memory::Library;
-use crate::memory::Second;
+use kettlefrost::raw;
+
+use crate::memory::{Library, Second};
 use crate::refusal;
 use crate::register::{Register, REGISTER_CAPACITY};
 
@@ -21,68 +18,80 @@ pub enum RegisterCall {
 
 /// A register by value.
 pub trait Registers {
-    fn new_register(&self) -> KfRegister;
-    fn play(&self, register: &KfRegister, call: RegisterCall, buffer: &[u8]) -> KfRegisterAnswer;
+    fn new_register(&self) -> raw::Register;
+    fn play(
+        &self,
+        register: &raw::Register,
+        call: RegisterCall,
+        buffer: &[u8],
+    ) -> raw::RegisterAnswer;
 }
 
 /// The register of this package.
 impl Registers for Second {
-    fn new_register(&self) -> KfRegister {
-        KfRegister::of(&Register::new())
+    fn new_register(&self) -> raw::Register {
+        raw::Register::from(&Register::new())
     }
 
-    fn play(&self, register: &KfRegister, call: RegisterCall, buffer: &[u8]) -> KfRegisterAnswer {
+    fn play(
+        &self,
+        register: &raw::Register,
+        call: RegisterCall,
+        buffer: &[u8],
+    ) -> raw::RegisterAnswer {
         let step = match call {
             RegisterCall::Enter => Register::enter,
             RegisterCall::Read => Register::read,
         };
-        let Some(mut kept) = register.plain() else {
-            return KfRegisterAnswer::refused(refusal::INVALID_REGISTER, register);
+        let Some(mut kept) = plain(register) else {
+            return refused(refusal::INVALID_REGISTER, register);
         };
         match step(&mut kept, buffer) {
-            Ok(()) => KfRegisterAnswer { number: 0, register: KfRegister::of(&kept) },
-            Err(number) => KfRegisterAnswer::refused(number, register),
+            Ok(()) => raw::RegisterAnswer { number: 0, register: raw::Register::from(&kept) },
+            Err(number) => refused(number, register),
         }
     }
 }
 
-#[cfg(feature = "bus")]
 impl Registers for Library {
-    fn new_register(&self) -> KfRegister {
-        library::register::new()
+    fn new_register(&self) -> raw::Register {
+        raw::register_new()
     }
 
-    fn play(&self, register: &KfRegister, call: RegisterCall, buffer: &[u8]) -> KfRegisterAnswer {
+    fn play(
+        &self,
+        register: &raw::Register,
+        call: RegisterCall,
+        buffer: &[u8],
+    ) -> raw::RegisterAnswer {
         match call {
-            RegisterCall::Enter => library::register::enter(*register, buffer),
-            RegisterCall::Read => library::register::read(*register, buffer),
+            RegisterCall::Enter => raw::register_enter(*register, buffer),
+            RegisterCall::Read => raw::register_read(*register, buffer),
         }
     }
 }
 
-impl KfRegister {
-    /// The form in which an accepted call hands a register back: 0 past the
-    /// open IDs.
-    pub fn of(register: &Register) -> KfRegister {
+/// The form in which an accepted call hands a register back: 0 past the open
+/// IDs.
+impl From<&Register> for raw::Register {
+    fn from(register: &Register) -> raw::Register {
         let mut ids = [0; REGISTER_CAPACITY];
         ids[..register.open.len()].copy_from_slice(&register.open);
-        KfRegister { ids, count: register.open.len() as u32, off: register.bus_off.into() }
-    }
-
-    /// The open IDs; none where the count is above what there is room for.
-    pub fn open(&self) -> Option<&[u32]> {
-        self.ids.get(..self.count as usize)
-    }
-
-    /// The register that it stands for.
-    pub fn plain(&self) -> Option<Register> {
-        Some(Register { open: self.open()?.to_vec(), bus_off: self.off != 0 })
+        raw::Register { ids, count: register.open.len() as u32, off: register.bus_off.into() }
     }
 }
 
-impl KfRegisterAnswer {
-    /// A refusal hands the register back as it was.
-    pub fn refused(number: u8, register: &KfRegister) -> KfRegisterAnswer {
-        KfRegisterAnswer { number: number.into(), register: *register }
-    }
+/// The open IDs; none where the count is above what there is room for.
+pub fn open_ids(register: &raw::Register) -> Option<&[u32]> {
+    register.ids.get(..register.count as usize)
+}
+
+/// The register that a record stands for.
+fn plain(register: &raw::Register) -> Option<Register> {
+    Some(Register { open: open_ids(register)?.to_vec(), bus_off: register.off != 0 })
+}
+
+/// A refusal hands the register back as it was.
+fn refused(number: u8, register: &raw::Register) -> raw::RegisterAnswer {
+    raw::RegisterAnswer { number: number.into(), register: *register }
 }

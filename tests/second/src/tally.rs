@@ -2,10 +2,11 @@
 
 use std::fmt;
 
+use kettlefrost::raw;
+
 use crate::codec::{self, Operation, Rule};
 use crate::counts::Counts;
 use crate::generate::{data_start, BREAKABLE, CODES};
-use crate::library::{KfOperation, KfPart, KfReading, KfWritten};
 
 /// Where a reading says that the end is reached.
 #[derive(Clone, Copy, PartialEq, Eq, PartialOrd, Ord)]
@@ -107,7 +108,7 @@ impl Tally {
         self.rows.count(outcome);
     }
 
-    pub fn reading(&mut self, buf: &[u8], at: usize, reading: &KfReading) {
+    pub fn reading(&mut self, buf: &[u8], at: usize, reading: &raw::Reading) {
         self.reads += 1;
         self.count(match reading.fault {
             0 if reading.end != 0 => Outcome::End(end_at(buf, at)),
@@ -120,7 +121,7 @@ impl Tally {
         });
     }
 
-    pub fn data(&mut self, buf: &[u8], op: &KfOperation, next: usize, part: KfPart) {
+    pub fn data(&mut self, buf: &[u8], op: &raw::Operation, next: usize, part: raw::Part) {
         self.count(Outcome::Data(match Operation::try_from(op) {
             Err(_) => Part::UnknownCode,
             Ok(_) if part.length != 0 => Part::Given(op.code),
@@ -132,7 +133,13 @@ impl Tally {
         }));
     }
 
-    pub fn written(&mut self, op: &KfOperation, data: &[u8], room: &[u8], written: &KfWritten) {
+    pub fn written(
+        &mut self,
+        op: &raw::Operation,
+        data: &[u8],
+        room: &[u8],
+        written: &raw::Written,
+    ) {
         self.writes += 1;
         let code = op.code;
         match written.refusal {
@@ -208,7 +215,7 @@ fn content_breach(piece: &[u8]) -> Breach {
 }
 
 /// The one reason for a refusal 7, or that there are several.
-fn breach(op: &KfOperation, data: &[u8]) -> Breach {
+fn breach(op: &raw::Operation, data: &[u8]) -> Breach {
     let Ok(op) = Operation::try_from(op) else {
         return Breach::UnknownCode;
     };
@@ -377,7 +384,7 @@ mod tests {
     fn outcomes_that_never_came_up_are_named() {
         let mut tally = Tally::new();
         let rows = tally.missing().count();
-        tally.reading(&[], 0, &KfReading { end: 1, ..KfReading::default() });
+        tally.reading(&[], 0, &raw::Reading { end: 1, ..raw::Reading::default() });
         assert_eq!(tally.missing().count(), rows - 1);
         assert!(!tally.missing().any(|row| *row == Outcome::End(EndAt::EmptyBuffer)));
     }

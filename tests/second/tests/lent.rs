@@ -124,7 +124,7 @@ fn a_start_frees_the_slots_and_leaves_the_rest() {
     let bus = Lent::start(8);
     assert!(bus.slots.iter().all(|slot| *slot == Slot::default()));
     assert!(bus.payload.iter().chain(&bus.queues).all(|&byte| byte == OLD));
-    assert_eq!(bus.state, State::new(8));
+    assert_eq!(bus.state, lent::new_state(8));
 }
 
 #[test]

@@ -1,7 +1,8 @@
 //! The register by value: what its calls hand back, and drawn calls.
 
+use kettlefrost::raw;
+
 use second::codec::Operation;
-use second::library::{KfRegister, KfRegisterAnswer};
 use second::memory::Second;
 use second::register_comparison::RegisterComparison;
 use second::register_plants::{PlantedRegister, PLANTS, SESSION_PLANTS};
@@ -11,10 +12,10 @@ use second::registers::Registers;
 const LARGEST_ID: u32 = 536_870_911;
 
 /// A register with these IDs open, and `rest` in every place past them.
-fn register(open: &[u32], rest: u32, off: u32) -> KfRegister {
+fn register(open: &[u32], rest: u32, off: u32) -> raw::Register {
     let mut ids = [rest; 345];
     ids[..open.len()].copy_from_slice(open);
-    KfRegister { ids, count: open.len() as u32, off }
+    raw::Register { ids, count: open.len() as u32, off }
 }
 
 fn can(id: u32) -> Vec<u8> {
@@ -29,12 +30,12 @@ fn status(status: u8) -> Vec<u8> {
     Operation::Status { status }.encode(&[])
 }
 
-fn done(open: &[u32], off: u32) -> KfRegisterAnswer {
-    KfRegisterAnswer { number: 0, register: register(open, 0, off) }
+fn done(open: &[u32], off: u32) -> raw::RegisterAnswer {
+    raw::RegisterAnswer { number: 0, register: register(open, 0, off) }
 }
 
-fn refused(number: u32, register: KfRegister) -> KfRegisterAnswer {
-    KfRegisterAnswer { number, register }
+fn refused(number: u32, register: raw::Register) -> raw::RegisterAnswer {
+    raw::RegisterAnswer { number, register }
 }
 
 #[test]
@@ -77,7 +78,7 @@ fn validity_asks_the_count_the_open_ids_and_none_where_bus_off() {
     let valid = register(&[1, LARGEST_ID], LARGEST_ID + 1, 0);
     let mut invalid = vec![register(&[1, LARGEST_ID + 1], 0, 0), register(&[1], 0, 256)];
     for count in [346, 65_536, u32::MAX] {
-        invalid.push(KfRegister { count, ..valid });
+        invalid.push(raw::Register { count, ..valid });
     }
     for invalid in invalid {
         for call in [Enter, Read] {

@@ -4,13 +4,9 @@ use std::env;
 use std::process::ExitCode;
 use std::time::Instant;
 
-#[cfg(feature = "bus")]
 use second::memory::Library;
-#[cfg(not(feature = "bus"))]
-use second::memory::Second;
 use second::register_comparison::RegisterComparison;
 use second::register_plants::{PlantedRegister, PLANTS, SESSION_PLANTS};
-use second::registers::Registers;
 
 const USAGE: &str = "usage: registers [--seed S] [--calls N]";
 
@@ -37,14 +33,6 @@ impl Options {
 /// Calls in which a wrong register has to be found.
 const SELF_CHECK_CALLS: u64 = 100_000;
 
-/// The library's register, or the second one in its place.
-fn compared() -> (&'static str, Box<dyn Registers>) {
-    #[cfg(feature = "bus")]
-    return ("library", Box::new(Library));
-    #[cfg(not(feature = "bus"))]
-    return ("second register in the library's place", Box::new(Second));
-}
-
 /// Compares the second register with each wrong one; says whether every wrong
 /// one was found.
 fn self_check(seed: u64) -> bool {
@@ -69,15 +57,14 @@ fn main() -> ExitCode {
         println!("registers: the comparison does not find what it should");
         return ExitCode::FAILURE;
     }
-    let (name, other) = compared();
-    let mut comparison = RegisterComparison::new(other);
+    let mut comparison = RegisterComparison::new(Box::new(Library));
     if let Err(difference) = comparison.run(options.seed, options.calls) {
         println!("{difference}");
         println!("registers: seed {}, call {}", options.seed, comparison.calls());
         return ExitCode::FAILURE;
     }
     print!("{comparison}");
-    println!("compared: second register, {name}");
+    println!("compared: second register, library");
     println!("seed {}, {:.1} s", options.seed, start.elapsed().as_secs_f64());
     let missing: Vec<String> = comparison.missing().collect();
     if !missing.is_empty() {

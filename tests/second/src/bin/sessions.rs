@@ -8,11 +8,8 @@ use std::time::Instant;
 use second::bus_cases::Cases;
 use second::bus_comparison::{Comparison, Difference};
 use second::bus_plants::{Planted, PLANTS};
-#[cfg(feature = "bus")]
-use second::memory::Library;
-use second::memory::{Calls, Second};
+use second::memory::{Calls, Library, Second};
 use second::register_plants::{PlantedRegister, SESSION_PLANTS};
-use second::registers::Registers;
 
 const USAGE: &str = "usage: sessions [--seed S] [--calls N] [--plants]";
 
@@ -47,23 +44,6 @@ fn run(comparison: &mut Comparison, seed: u64, calls: u64) -> Result<(), Box<Dif
         comparison.session(&mut cases, calls - comparison.tally.calls())?;
     }
     Ok(())
-}
-
-/// The library takes part where its archive has the calls of the bus.
-fn sides() -> Vec<(&'static str, Box<dyn Calls>)> {
-    vec![
-        ("second bus", Box::new(Second)),
-        #[cfg(feature = "bus")]
-        ("library", Box::new(Library)),
-    ]
-}
-
-/// The library's register, or the second one in its place.
-fn registers() -> Box<dyn Registers> {
-    #[cfg(feature = "bus")]
-    return Box::new(Library);
-    #[cfg(not(feature = "bus"))]
-    return Box::new(Second);
 }
 
 /// Compares the second bus with each wrong one, and plays it with each wrong
@@ -106,9 +86,9 @@ fn main() -> ExitCode {
         println!("sessions: {buses} wrong buses and {registers} wrong registers, all found");
         return ExitCode::SUCCESS;
     }
-    let sides = sides();
-    let names: Vec<&str> = sides.iter().map(|(name, _)| *name).collect();
-    let mut comparison = Comparison::new(sides, registers());
+    let sides: Vec<(_, Box<dyn Calls>)> =
+        vec![("second bus", Box::new(Second)), ("library", Box::new(Library))];
+    let mut comparison = Comparison::new(sides, Box::new(Library));
     if let Err(difference) = run(&mut comparison, options.seed, options.calls) {
         println!("{difference}");
         println!("sessions: seed {}, call {}", options.seed, comparison.tally.calls());
@@ -116,7 +96,7 @@ fn main() -> ExitCode {
     }
     let tally = &comparison.tally;
     print!("{tally}");
-    println!("compared: {}, plain bus", names.join(", "));
+    println!("compared: second bus, library, plain bus");
     println!("demand 3: {}", comparison.registers.counts);
     println!("seed {}, {:.1} s", options.seed, start.elapsed().as_secs_f64());
     let unheld = comparison.registers.counts.missing().map(ToString::to_string);

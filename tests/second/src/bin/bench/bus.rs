@@ -2,11 +2,11 @@
 
 use std::hint::black_box;
 
+use kettlefrost::raw;
 use second::bus::QUEUE_CAPACITY;
 use second::by_value;
 use second::codec::Operation;
 use second::lent::{self, Injection, Round, Slot, State, NODES, SLOTS};
-use second::library::{self, KfAnswer};
 use second::memory;
 use second::memory::{Calls, Memory, Second, Sizes};
 
@@ -20,7 +20,7 @@ const ROUNDS: usize = SLOTS;
 /// the stack. Slices go as pointer and length under both.
 #[allow(improper_ctypes_definitions)]
 mod by_call {
-    use super::{by_value, Injection, KfAnswer, Slot, State};
+    use super::{by_value, raw, Injection, Slot, State};
 
     #[inline(never)]
     pub extern "C" fn submit(
@@ -30,7 +30,7 @@ mod by_call {
         queues: &mut [u8],
         node: u32,
         buffer: &[u8],
-    ) -> KfAnswer {
+    ) -> raw::Answer {
         by_value::submit(state, slots, payload, queues, node, buffer)
     }
 
@@ -41,7 +41,7 @@ mod by_call {
         payload: &mut [u8],
         queues: &mut [u8],
         injection: Option<Injection>,
-    ) -> KfAnswer {
+    ) -> raw::Answer {
         by_value::round(state, slots, payload, queues, injection)
     }
 
@@ -53,7 +53,7 @@ mod by_call {
         queues: &[u8],
         node: u32,
         buffer: &mut [u8],
-    ) -> KfAnswer {
+    ) -> raw::Answer {
         by_value::collect(state, slots, payload, queues, node, buffer)
     }
 }
@@ -109,7 +109,7 @@ macro_rules! by_value_way {
     };
 }
 
-by_value_way!(ByLibrary, library);
+by_value_way!(ByLibrary, raw);
 by_value_way!(ByCall, by_call);
 
 /// The second bus as it is used in Rust: the state changed where it is.

@@ -5,15 +5,14 @@
 //! second program is measured twice: behind a call of the same kind, and as it
 //! is best used, inlined into the loop.
 
-#[cfg(feature = "bus")]
 mod bus;
 mod measure;
 
 use std::hint::black_box;
 
+use kettlefrost::raw;
 use second::codec::{self, Operation, Reading};
 use second::generate::Generator;
-use second::library::{self, KfOperation};
 
 use measure::{measure, Pass, SAMPLES};
 
@@ -25,7 +24,7 @@ struct Stream {
     name: &'static str,
     bytes: Vec<u8>,
     operations: Vec<(Operation, Vec<u8>)>,
-    flat: Vec<(KfOperation, Vec<u8>)>,
+    flat: Vec<(raw::Operation, Vec<u8>)>,
 }
 
 impl Stream {
@@ -37,7 +36,7 @@ impl Stream {
             let start = stream.bytes.len();
             stream.bytes.resize(start + op.header_length() + data.len(), 0);
             op.put(&data, &mut stream.bytes[start..]);
-            stream.flat.push((KfOperation::from(&op), data.clone()));
+            stream.flat.push((raw::Operation::from(&op), data.clone()));
             stream.operations.push((op, data));
         }
         stream
@@ -116,7 +115,7 @@ fn sum(op: &Operation) -> u64 {
 fn decode_library(buf: &[u8]) -> u64 {
     let (mut at, mut total) = (0, 0);
     loop {
-        let reading = library::read(buf, at);
+        let reading = raw::read(buf, at);
         match Operation::try_from(&reading.operation) {
             Ok(op) => total += sum(&op),
             Err(_) => return total,
@@ -138,7 +137,7 @@ fn decode_second(buf: &[u8], read: impl Fn(&[u8], usize) -> Reading) -> u64 {
 fn encode_library(stream: &Stream, out: &mut [u8]) -> u64 {
     let mut at = 0;
     for (op, data) in &stream.flat {
-        at += library::write(*op, data, &mut out[at..]).length;
+        at += raw::write(*op, data, &mut out[at..]).length;
     }
     at as u64
 }
@@ -186,6 +185,5 @@ fn main() {
         measure_decode(&stream);
         measure_encode(&stream);
     }
-    #[cfg(feature = "bus")]
     bus::measure_all();
 }

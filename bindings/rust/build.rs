@@ -1,4 +1,5 @@
-//! Links the proved library from the folder named by `KETTLEFROST_LIB`.
+//! Links `libkettlefrost.a` from the folder named by `KETTLEFROST_LIB`, or from
+//! where the repository builds it.
 
 use std::env;
 use std::path::PathBuf;
@@ -10,6 +11,10 @@ fn main() {
         None => package.join("../../target/staticlib"),
     };
     let file = folder.join("libkettlefrost.a");
+    if !file.exists() {
+        let file = file.display();
+        println!("cargo:warning=there is no {file}: see KETTLEFROST_LIB in the documentation");
+    }
     println!("cargo:rustc-link-search=native={}", folder.display());
     println!("cargo:rustc-link-lib=static=kettlefrost");
     println!("cargo:rerun-if-env-changed=KETTLEFROST_LIB");
