@@ -15,7 +15,7 @@ use Rattle.operation.specs.declared.Operation.{Operation}
 use Rattle.operation.specs.declared.Operation.the-variants.{FormatError, CanTransmit, FdTransmit, XlTransmit, Confirm, ArbitrationLost, BusError, Configuration, Status, Wakeup}
 use Rattle.operation.proofs.Numbers.{take-bytes, drop-bytes}
 use Rattle.operation.proofs.Sizes.{header-length, encode-length}
-use Rattle.decoder.specs.Front.{front}
+use Rattle.decoder.specs.Front.{front, taken}
 use Rattle.decoder.specs.Reading.{cursorAt, placed, readAt, dataAt}
 use Rattle.decoder.specs.declared.Front.{Front}
 use Rattle.decoder.specs.declared.Front.the-variants.{End, Fault, Found}
@@ -23,7 +23,7 @@ use Rattle.decoder.specs.declared.Reading.{Reading}
 use Rattle.decoder.specs.declared.Reading.the-variants.{AtEnd, Faulty, Read}
 use Rattle.decoder.proofs.Decoded.{Back, decoded}
 use Rattle.decoder.proofs.Encoded.{encoded}
-use Rattle.decoder.proofs.Forward.{taken, forward}
+use Rattle.decoder.proofs.Forward.{forward}
 use Rattle.decoder.proofs.Found.{found, stated-own}
 use Rattle.decoder.proofs.Payload.{data-found}
 use Rattle.decoder.proofs.Streams.{front-nil, items-joined}

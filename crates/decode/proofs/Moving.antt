@@ -5,13 +5,13 @@ use mathlib.Core.List.{List}
 use Prim.Native.Nat.{ℕ, _≤_, _<_}
 use native.Mathlib.Omega.{arith}
 use lib.ListN.{length, drop, length-drop}
-use Rattle.decoder.specs.Front.{front}
+use Rattle.decoder.specs.Front.{front, taken}
 use Rattle.decoder.specs.Reading.{placed, readAt}
 use Rattle.decoder.specs.declared.Front.{Front}
 use Rattle.decoder.specs.declared.Front.the-variants.{End, Fault, Found}
 use Rattle.decoder.specs.declared.Reading.{Reading}
 use Rattle.decoder.specs.declared.Reading.the-variants.{AtEnd, Faulty, Read}
-use Rattle.decoder.proofs.Forward.{taken, forward}
+use Rattle.decoder.proofs.Forward.{forward}
 
 -- the position after a reading; at the end of a buffer, its length
 abbrev pub after : List ℕ → Reading → ℕ

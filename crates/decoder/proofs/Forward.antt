@@ -10,16 +10,10 @@ use lib.ListN.{length, take, drop, length-drop}
 use lib.Seq.{length-take-le, take-all}
 use borrow.Author.Tests.{eqb-true, ltb-false}
 use Rattle.operation.specs.declared.Operation.{Operation}
-use Rattle.decoder.specs.Front.{Shape, none, holds, verdict, judge, decode, statedLength, front}
+use Rattle.decoder.specs.Front.{Shape, none, holds, verdict, judge, decode, statedLength, front, taken}
 use Rattle.decoder.specs.Reading.{placed, readAt}
 use Rattle.decoder.specs.declared.Front.{Front}
 use Rattle.decoder.specs.declared.Front.the-variants.{End, Fault, Found}
-
--- how many bytes are taken up
-abbrev pub taken : Front → ℕ
-taken End = 0
-taken (Fault number n) = n
-taken (Found op n) = n
 
 verdict-taken : (sized lawful : Bool) (op : Operation) (n : ℕ) → taken (verdict sized lawful op n) ≡ n
 unfolding verdict
@@ -27,12 +21,13 @@ verdict-taken true true op n = refl
 verdict-taken true false op n = refl
 verdict-taken false lawful op n = refl
 
-judge-taken : (n : ℕ) (h : Shape) → taken (judge n h) ≡ n
+-- an operation takes up all its bytes, faulty or not
+pub judge-taken : (n : ℕ) (h : Shape) → taken (judge n h) ≡ n
 unfolding judge
 judge-taken n none = refl
 judge-taken n (holds least op) = verdict-taken _ _ op n
 
-decode-taken : (t : List ℕ) → taken (decode t) ≡ length t
+pub decode-taken : (t : List ℕ) → taken (decode t) ≡ length t
 unfolding decode
 decode-taken t = judge-taken (length t) _
 

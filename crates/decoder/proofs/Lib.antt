@@ -1,4 +1,5 @@
 pub mod Forward
+pub mod Whole
 pub mod Found
 pub mod Streams
 pub mod Payload

@@ -8,11 +8,11 @@ use native.Mathlib.Nat.{le-refl}
 use native.Mathlib.Omega.{arith}
 use lib.ListN.{length, take, drop, length-drop, take-append-drop}
 use Rattle.operation.specs.declared.Operation.{Operation}
-use Rattle.decoder.specs.Front.{front}
+use Rattle.decoder.specs.Front.{front, taken}
 use Rattle.decoder.specs.Stream.{Item, operation, fault, bytesOf, itemsUpTo, itemsOf, joined}
 use Rattle.decoder.specs.declared.Front.{Front}
 use Rattle.decoder.specs.declared.Front.the-variants.{End, Fault, Found}
-use Rattle.decoder.proofs.Forward.{taken, forward}
+use Rattle.decoder.proofs.Forward.{forward}
 
 pub front-nil : front [] ≡ End
 unfolding front

@@ -74,6 +74,13 @@ statedLength s = numberAt 4 s 4
 unfoldable pub decode : List ℕ → Front
 decode t = judge (length t) (shapeOf (kindOf (numberAt 4 t 0)) t)
 
+-- the length of the operation that what remains of a buffer starts with; 0 where it is not all there
+unfoldable pub wholeLength : List ℕ → ℕ
+wholeLength s =
+    cond (ltb (length s) 8) 0
+    (cond (ltb (statedLength s) 8) 0
+    (cond (ltb (length s) (statedLength s)) 0 (statedLength s)))
+
 -- the front of what remains of a buffer: the end, fault 1 or 2, which take up all of it, or an operation of the stated length
 unfoldable pub front : List ℕ → Front
 front s =
@@ -82,3 +89,9 @@ front s =
     (cond (ltb (statedLength s) 8) (Fault 2 (length s))
     (cond (ltb (length s) (statedLength s)) (Fault 2 (length s))
     (decode (take (statedLength s) s)))))
+
+-- how many bytes are taken up
+abbrev pub taken : Front → ℕ
+taken End = 0
+taken (Fault number n) = n
+taken (Found op n) = n

@@ -3,7 +3,7 @@ ghost use mathlib.Core.Path.{_≡_};
 ghost use Prim.Native.Nat.{_+_, _^_, _≤_, _<_};
 ghost use lib.ListN.{length, getD};
 ghost use Rattle.operation.specs.Number.{numberAt};
-ghost use Rattle.decoder.specs.Front.{formatError, can, fd, xl, confirm, arbitrationLost, busError, configuration, status, wakeup, settingOf, shapeOf, verdict, judge, decode, front};
+ghost use Rattle.decoder.specs.Front.{formatError, can, fd, xl, confirm, arbitrationLost, busError, configuration, status, wakeup, settingOf, shapeOf, verdict, judge, decode, wholeLength, front};
 ghost use Rattle.decoder.specs.Reading.{readAt, dataAt};
 use operation::Operation;
 
@@ -75,7 +75,7 @@ fn give_verdict(sized: bool, lawful: bool, op: Operation, size: usize) -> Front
 
 // The bytes of one operation, a function a kind. Each asks for the length first: the fields are then read without a test.
 
-fn read_format_error(t: &[u8]) -> Front
+pub fn read_format_error(t: &[u8]) -> Front
     ensures { λ r. ⌜ r ≡ judge (length (now (t .entry))) (shapeOf formatError (now (t .entry))) ⌝ }
 {
     let size = t.len();
@@ -91,7 +91,7 @@ fn read_format_error(t: &[u8]) -> Front
     )
 }
 
-fn read_can(t: &[u8]) -> Front
+pub fn read_can(t: &[u8]) -> Front
     ensures { λ r. ⌜ r ≡ judge (length (now (t .entry))) (shapeOf can (now (t .entry))) ⌝ }
 {
     let size = t.len();
@@ -111,7 +111,7 @@ fn read_can(t: &[u8]) -> Front
     )
 }
 
-fn read_fd(t: &[u8]) -> Front
+pub fn read_fd(t: &[u8]) -> Front
     ensures { λ r. ⌜ r ≡ judge (length (now (t .entry))) (shapeOf fd (now (t .entry))) ⌝ }
 {
     let size = t.len();
@@ -138,7 +138,7 @@ fn read_fd(t: &[u8]) -> Front
     )
 }
 
-fn read_xl(t: &[u8]) -> Front
+pub fn read_xl(t: &[u8]) -> Front
     ensures { λ r. ⌜ r ≡ judge (length (now (t .entry))) (shapeOf xl (now (t .entry))) ⌝ }
 {
     let size = t.len();
@@ -169,7 +169,7 @@ fn read_xl(t: &[u8]) -> Front
     )
 }
 
-fn read_confirm(t: &[u8]) -> Front
+pub fn read_confirm(t: &[u8]) -> Front
     ensures { λ r. ⌜ r ≡ judge (length (now (t .entry))) (shapeOf confirm (now (t .entry))) ⌝ }
 {
     let size = t.len();
@@ -181,7 +181,7 @@ fn read_confirm(t: &[u8]) -> Front
     give_verdict(size == 12, lawful, Operation::Confirm { id }, size)
 }
 
-fn read_arbitration_lost(t: &[u8]) -> Front
+pub fn read_arbitration_lost(t: &[u8]) -> Front
     ensures { λ r. ⌜ r ≡ judge (length (now (t .entry))) (shapeOf arbitrationLost (now (t .entry))) ⌝ }
 {
     let size = t.len();
@@ -193,7 +193,7 @@ fn read_arbitration_lost(t: &[u8]) -> Front
     give_verdict(size == 12, lawful, Operation::ArbitrationLost { id }, size)
 }
 
-fn read_bus_error(t: &[u8]) -> Front
+pub fn read_bus_error(t: &[u8]) -> Front
     ensures { λ r. ⌜ r ≡ judge (length (now (t .entry))) (shapeOf busError (now (t .entry))) ⌝ }
 {
     let size = t.len();
@@ -229,7 +229,7 @@ fn setting_at(t: &[u8], kind: u8) -> u32
     }
 }
 
-fn read_configuration(t: &[u8]) -> Front
+pub fn read_configuration(t: &[u8]) -> Front
     ensures { λ r. ⌜ r ≡ judge (length (now (t .entry))) (shapeOf configuration (now (t .entry))) ⌝ }
 {
     let size = t.len();
@@ -248,7 +248,7 @@ fn read_configuration(t: &[u8]) -> Front
     )
 }
 
-fn read_status(t: &[u8]) -> Front
+pub fn read_status(t: &[u8]) -> Front
     ensures { λ r. ⌜ r ≡ judge (length (now (t .entry))) (shapeOf status (now (t .entry))) ⌝ }
 {
     let size = t.len();
@@ -260,7 +260,7 @@ fn read_status(t: &[u8]) -> Front
     give_verdict(size == 9, lawful, Operation::Status { status }, size)
 }
 
-fn read_wakeup(t: &[u8]) -> Front
+pub fn read_wakeup(t: &[u8]) -> Front
     ensures { λ r. ⌜ r ≡ judge (length (now (t .entry))) (shapeOf wakeup (now (t .entry))) ⌝ }
 {
     let size = t.len();
@@ -293,10 +293,32 @@ fn read_operation(t: &[u8]) -> Front
     }
 }
 
+// The length of the operation that the rest of a buffer starts with; 0 at the end, and where fault 1 or 2 stands there.
+pub fn whole_length(s: &[u8]) -> usize
+    ensures { λ r. ⌜ r ≡ wholeLength (now (s .entry)) ⌝ }
+{
+    let left = s.len();
+    if left < 8 {
+        return 0;
+    }
+    let stated = u32_at(s, 4) as usize;
+    if stated < 8 {
+        return 0;
+    }
+    if left < stated {
+        return 0;
+    }
+    stated
+}
+
 // What stands at the front of the rest of a buffer.
 pub fn read_front(s: &[u8]) -> Front
     ensures { λ r. ⌜ r ≡ front (now (s .entry)) ⌝ }
 {
+    let whole = whole_length(s);
+    if 0 < whole {
+        return read_operation(&s[..whole]);
+    }
     let left = s.len();
     if left == 0 {
         return Front::End;
@@ -307,20 +329,10 @@ pub fn read_front(s: &[u8]) -> Front
             size: left,
         };
     }
-    let stated = u32_at(s, 4) as usize;
-    if stated < 8 {
-        return Front::Fault {
-            number: 2,
-            size: left,
-        };
+    Front::Fault {
+        number: 2,
+        size: left,
     }
-    if left < stated {
-        return Front::Fault {
-            number: 2,
-            size: left,
-        };
-    }
-    read_operation(&s[..stated])
 }
 
 impl Cursor {

@@ -19,10 +19,13 @@ use Rattle.kettlefrost.specs.declared.WriteAnswer.{WriteAnswer}
 use Rattle.kettlefrost.specs.declared.Named.{Named}
 use Rattle.kettlefrost.specs.declared.Named.the-variants.{Known, Unknown}
 
+abbrev pub noOperation : ℕ → ℕ → ℕ → ReadAnswer
+noOperation end fault next = record { end = end; fault = fault; next = next; operation = blank }
+
 -- a reading at a position: the end (and the position itself), a fault, or the operation
 abbrev pub readAnswer : ℕ → Reading → ReadAnswer
-readAnswer at AtEnd = record { end = 1; fault = 0; next = at; operation = blank }
-readAnswer at (Faulty number next) = record { end = 0; fault = number; next = next .at; operation = blank }
+readAnswer at AtEnd = noOperation 1 0 at
+readAnswer at (Faulty number next) = noOperation 0 number (next .at)
 readAnswer at (Read op next) = record { end = 0; fault = 0; next = next .at; operation = flat op }
 
 -- where the data of an operation lie: they end at a position; 0 and 0 where there are none

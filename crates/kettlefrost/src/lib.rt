@@ -3,18 +3,20 @@ mod register;
 
 ghost use mathlib.Core.Path.{_≡_};
 ghost use lib.ListN.{length};
-ghost use Rattle.decoder.specs.Reading.{readAt};
+ghost use Prim.Native.Nat.{_+_, _<_, _^_};
+ghost use Rattle.decoder.specs.Front.{decode, taken};
+ghost use Rattle.decoder.specs.Reading.{placed, readAt};
 ghost use Rattle.bus_state.specs.Memory.{held};
 ghost use Rattle.bus_model.specs.Primitives.{newState};
 ghost use Rattle.bus_model.specs.Calls.{startIn, submitIn, roundIn, collectIn, bufferAfter};
 ghost use Rattle.arbitration.specs.Injections.{injectionFrom};
 ghost use Rattle.bus.specs.Left.{left, leaves};
 ghost use Rattle.kettlefrost.specs.Flat.{flatRow, flat, named};
-ghost use Rattle.kettlefrost.specs.Calls.{readAnswer, dataAnswer, lengthWritten, answerNamed, writeAnswer, bufferAfterWrite};
+ghost use Rattle.kettlefrost.specs.Calls.{noOperation, readAnswer, dataAnswer, lengthWritten, answerNamed, writeAnswer, bufferAfterWrite};
 use bus::SLOTS;
 use bus_state::State;
 use decoder::Cursor;
-use decoder::Reading;
+use decoder::Front;
 use encoder::Written;
 use operation::Operation;
 use outcome::Answer;
@@ -167,43 +169,74 @@ fn operation_of(f: FlatOperation) -> Named
     }
 }
 
+// No operation: at the end, or a fault.
+fn no_operation(end: u32, fault: u32, next: usize) -> ReadAnswer
+    ensures { λ r. ⌜ r ≡ noOperation end fault next ⌝ }
+{
+    let operation = row(0, 0, 0, 0, 0, 0, 0, 0);
+    ReadAnswer {
+        end,
+        fault,
+        next,
+        operation,
+    }
+}
+
+// What stands at the front of the bytes from a position on.
+fn answer_front(at: usize, f: Front) -> ReadAnswer
+    requires { ⌜ at + taken f < 2 ^ 64 ⌝ }
+    ensures { λ r. ⌜ r ≡ readAnswer at (placed at f) ⌝ }
+{
+    match f {
+        Front::End => no_operation(1, 0, at),
+        Front::Fault { number, size } => no_operation(0, number as u32, at + size),
+        Front::Found { op, size } => {
+            let operation = flatten(op);
+            ReadAnswer {
+                end: 0,
+                fault: 0,
+                next: at + size,
+                operation,
+            }
+        }
+    }
+}
+
+// The bytes of one operation by its code: a reader a kind, so that the operation goes through no memory.
+fn read_named(t: &[u8], at: usize) -> ReadAnswer
+    requires { ⌜ at + length (now t) < 2 ^ 64 ⌝ }
+    ensures { λ r. ⌜ r ≡ readAnswer at (placed at (decode (now (t .entry)))) ⌝ }
+{
+    let code = decoder::code_of(t);
+    match code {
+        0x01 => answer_front(at, decoder::read_format_error(t)),
+        0x10 => answer_front(at, decoder::read_can(t)),
+        0x11 => answer_front(at, decoder::read_fd(t)),
+        0x12 => answer_front(at, decoder::read_xl(t)),
+        0x20 => answer_front(at, decoder::read_confirm(t)),
+        0x30 => answer_front(at, decoder::read_arbitration_lost(t)),
+        0x31 => answer_front(at, decoder::read_bus_error(t)),
+        0x40 => answer_front(at, decoder::read_configuration(t)),
+        0x41 => answer_front(at, decoder::read_status(t)),
+        0x42 => answer_front(at, decoder::read_wakeup(t)),
+        _ => no_operation(0, 3, at + t.len()),
+    }
+}
+
 // Reads the operation at a position.
 #[no_mangle]
 pub extern "C" fn kf_read(buffer: &[u8], at: usize) -> ReadAnswer
     ensures { λ r. ⌜ r ≡ readAnswer at (readAt (now (buffer .entry)) at) ⌝ }
 {
-    let reading = (Cursor { at }).read(buffer);
-    match reading {
-        Reading::AtEnd => {
-            let operation = row(0, 0, 0, 0, 0, 0, 0, 0);
-            ReadAnswer {
-                end: 1,
-                fault: 0,
-                next: at,
-                operation,
-            }
-        }
-        Reading::Faulty { number, next } => {
-            let operation = row(0, 0, 0, 0, 0, 0, 0, 0);
-            let place = next.at;
-            ReadAnswer {
-                end: 0,
-                fault: number as u32,
-                next: place,
-                operation,
-            }
-        }
-        Reading::Read { op, next } => {
-            let operation = flatten(op);
-            let place = next.at;
-            ReadAnswer {
-                end: 0,
-                fault: 0,
-                next: place,
-                operation,
-            }
-        }
+    if buffer.len() <= at {
+        return no_operation(1, 0, at);
     }
+    let rest = &buffer[at..];
+    let whole = decoder::whole_length(rest);
+    if 0 < whole {
+        return read_named(&rest[..whole], at);
+    }
+    answer_front(at, decoder::read_front(rest))
 }
 
 // Where the data of an operation that ends at a position lie.

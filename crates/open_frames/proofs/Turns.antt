@@ -8,14 +8,14 @@ use lib.ListN.{length, take, drop, length-drop}
 use lib.Seq.{drop-drop}
 use Rattle.operation.specs.declared.Operation.{Operation}
 use Rattle.operation.specs.declared.Operation.the-variants.{FormatError, CanTransmit, FdTransmit, XlTransmit, Confirm, ArbitrationLost, BusError, Configuration, Status, Wakeup}
-use Rattle.decoder.specs.Front.{front}
+use Rattle.decoder.specs.Front.{front, taken}
 use Rattle.decoder.specs.Reading.{placed, readAt}
 use Rattle.decoder.specs.Stream.{Item, operation, fault, itemsOf}
 use Rattle.decoder.specs.declared.Front.{Front}
 use Rattle.decoder.specs.declared.Front.the-variants.{End, Fault, Found}
 use Rattle.decoder.specs.declared.Reading.{Reading}
 use Rattle.decoder.specs.declared.Reading.the-variants.{AtEnd, Faulty, Read}
-use Rattle.decoder.proofs.Forward.{taken, forward}
+use Rattle.decoder.proofs.Forward.{forward}
 use Rattle.decoder.proofs.Streams.{front-nil, unroll}
 use Rattle.plain_bus.specs.Refusal.{RegisterRefusal, registerFull, registerDiffers}
 use Rattle.plain_bus.specs.Register.{Register, Update, updated, rejected, updates, enterItem, readItem}

@@ -14,14 +14,14 @@ use Rattle.operation.specs.Rules.{legal}
 use Rattle.operation.specs.Kinds.{isTransmit}
 use Rattle.operation.specs.declared.Operation.{Operation}
 use Rattle.operation.specs.declared.Operation.the-variants.{FormatError, CanTransmit, FdTransmit, XlTransmit, Confirm, ArbitrationLost, BusError, Configuration, Status, Wakeup}
-use Rattle.decoder.specs.Front.{front}
+use Rattle.decoder.specs.Front.{front, taken}
 use Rattle.decoder.specs.Reading.{cursorAt, placed, readAt, dataAt}
 use Rattle.decoder.specs.Stream.{operation, fault}
 use Rattle.decoder.specs.declared.Cursor.{Cursor}
 use Rattle.decoder.specs.declared.Front.{Front}
 use Rattle.decoder.specs.declared.Front.the-variants.{End, Fault, Found}
 use Rattle.decoder.specs.declared.Reading.the-variants.{AtEnd, Faulty, Read}
-use Rattle.decoder.proofs.Forward.{taken, forward}
+use Rattle.decoder.proofs.Forward.{forward}
 use Rattle.decoder.proofs.Found.{found}
 use Rattle.decoder.proofs.Payload.{data-found}
 use Rattle.decoder.proofs.Streams.{front-nil, unroll}

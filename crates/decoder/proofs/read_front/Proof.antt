@@ -1,38 +1,48 @@
--- Each return by the tests that led there.
-use Rattle.decoder.specs.Front.{front}
+-- By the length of an operation that is all there: what it is decoded to, or else the tests of the remaining bytes.
+use Rattle.decoder.proofs.Whole.{whole-within, front-whole, front-short}
+use Rattle.decoder.specs.Front.{wholeLength}
 use borrow.Author.Tests.{eq-eqb, ne-eqb, lt-ltb, le-ltb}
+use denote.Ref.{now}
 use lib.Seq.{length-take-le}
 use mathlib.Core.Path.{sym}
+use Prim.Native.Nat.{_<_, _≤_}
 use native.Mathlib.Omega.{arith}
 use borrow.Author.Needs.{needs}
 use Rattle.decoder.proofs.read_front.Statement.{statement}
 use Rattle.decoder.proofs.read_front.Tie as tie
 
+slice-aggregate-read-operation : tie.Need-slice-aggregate-read-operation
+slice-aggregate-read-operation c =
+    let s = now (c .before .before .before .before .args .s) in
+    sym (length-take-le (c .before .before .whole-length .result) s
+    (omega (arith, whole-within s, c .before .before .whole-length .ensures)))
+
 returns : tie.Need-returns
-unfolding front
-returns c = rw (eq-eqb _ 0 (c .if1 .taken))
+returns c =
+    let s = now (c .before .before .before .before .before .args .s) in
+    let h : 0 < wholeLength s = omega (arith, c .before .before .before .whole-length .ensures) in
+    rw (front-whole s h, ← c .before .before .before .whole-length .ensures) (c .read-operation .ensures)
 
 returns-2 : tie.Need-returns-2
-unfolding front
-returns-2 c = rw (ne-eqb _ 0 (c .before .if1 .left), lt-ltb _ 8 (c .if2 .taken))
+returns-2 c =
+    let s = now (c .before .before .before .before .args .s) in
+    let h : wholeLength s ≤ 0 = omega (arith, c .before .before .whole-length .ensures) in
+    rw (front-short s h, eq-eqb _ 0 (c .if2 .taken))
 
 returns-3 : tie.Need-returns-3
-unfolding front
-returns-3 c = rw (ne-eqb _ 0 (c .before .before .before .if1 .left), le-ltb _ 8 (c .before .before .if2 .left), ← c .before .u32-at .ensures, lt-ltb _ 8 (c .if3 .taken))
+returns-3 c =
+    let s = now (c .before .before .before .before .before .args .s) in
+    let h : wholeLength s ≤ 0 = omega (arith, c .before .before .before .whole-length .ensures) in
+    rw (front-short s h, ne-eqb _ 0 (c .before .if2 .left), lt-ltb _ 8 (c .if3 .taken))
 
 returns-4 : tie.Need-returns-4
-unfolding front
-returns-4 c = rw (ne-eqb _ 0 (c .before .before .before .before .if1 .left), le-ltb _ 8 (c .before .before .before .if2 .left), ← c .before .before .u32-at .ensures, le-ltb _ 8 (c .before .if3 .left), lt-ltb _ _ (c .if4 .taken))
-
-slice-aggregate-read-operation : tie.Need-slice-aggregate-read-operation
-slice-aggregate-read-operation c = sym (length-take-le _ _ (omega arith))
-
-returns-5 : tie.Need-returns-5
-unfolding front
-returns-5 c = rw (ne-eqb _ 0 (c .before .before .before .before .before .before .if1 .left), le-ltb _ 8 (c .before .before .before .before .before .if2 .left), ← c .before .before .before .before .u32-at .ensures, le-ltb _ 8 (c .before .before .before .if3 .left), le-ltb _ _ (c .before .before .if4 .left)) (c .read-operation .ensures)
+returns-4 c =
+    let s = now (c .before .before .before .before .before .args .s) in
+    let h : wholeLength s ≤ 0 = omega (arith, c .before .before .before .whole-length .ensures) in
+    rw (front-short s h, ne-eqb _ 0 (c .before .if2 .left), le-ltb _ 8 (c .if3 .left))
 
 pub read-front-spec : {M : Type 1} → statement M
 read-front-spec =
     tie.close
-    (tie.spec returns returns-2 (λ c κs. search needs) (λ c. search needs) returns-3 returns-4
-    slice-aggregate-read-operation (λ c κs. search needs) returns-5)
+    (tie.spec (λ c κs. search needs) slice-aggregate-read-operation (λ c κs. search needs) returns returns-2 returns-3
+    returns-4)
