@@ -4,7 +4,7 @@
 # make install    header, static and shared library and pkg-config file to PREFIX=.. (DESTDIR=.. in front, to stage)
 # make bench      throughput of the proved library against the second program
 # make soak N=..  N calls of the bus in random sessions, compared; SEED=.. for other ones
-.PHONY: run test examples install bench soak clean always
+.PHONY: run test examples install bench soak clean
 
 RT = rt
 PREFIX = /usr/local
@@ -23,8 +23,7 @@ run:
 test:
 	.ci/run
 
-# Proves what changed, and only that.
-$(archive): always
+$(archive): crates.txt $(shell find crates -type f)
 	$(RT) staticlib kettlefrost
 
 # The same object code. No text relocations: the archive has to be position independent.
@@ -49,4 +48,4 @@ soak: $(archive)
 	tests/second/target/release/sessions --calls $(N) --seed $(SEED)
 
 clean:
-	rm -rf target tests/second/target
+	rm -rf target tests/second/target bindings/rust/target

@@ -1,6 +1,5 @@
 #!/bin/sh
-# Runs the example of each language and holds what it prints to examples/w6.txt. A language whose example is not here is
-# left out. The library has to be made: target/staticlib/libkettlefrost.a and .so (make examples does so).
+# Runs the example of each language and holds what it prints to examples/w6.txt. The library has to be made: target/staticlib/libkettlefrost.a and .so (make examples does so).
 set -eu
 cd "$(dirname "$0")/.."
 libraries=$PWD/target/staticlib
@@ -23,13 +22,8 @@ example() {
 "${CC:-cc}" -std=c99 -Wall -Wextra -pedantic -O2 -I include examples/c/w6.c "$libraries/libkettlefrost.a" -o "$out/w6"
 example C "$out/w6"
 
-if [ -f bindings/rust/Cargo.toml ]; then
-    example Rust cargo run --example w6 --manifest-path bindings/rust/Cargo.toml --release --offline --quiet
-fi
-
-if [ -f examples/python/w6.py ]; then
-    example Python env KETTLEFROST_LIBRARY="$libraries/libkettlefrost.so" python3 examples/python/w6.py
-fi
+example Rust cargo run --example w6 --manifest-path bindings/rust/Cargo.toml --release --offline --quiet
+example Python env KETTLEFROST_LIBRARY="$libraries/libkettlefrost.so" PYTHONPATH=bindings/python python3 -B examples/python/w6.py
 
 cat examples/w6.txt
 echo "examples: printed alike by$languages"
