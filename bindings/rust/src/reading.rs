@@ -63,11 +63,11 @@ pub enum Fault {
     /// Only 1 to 7 bytes remain. They are taken up.
     TooFewBytes = 1,
     /// The length is below 8 or beyond what remains. All that remains is taken up.
-    LengthOutOfBounds = 2,
+    LengthOutOfRange = 2,
     /// The code is none of the table.
     UnknownCode = 3,
     /// The length is not that of the kind.
-    WrongLength = 4,
+    LengthNotOfKind = 4,
     /// A content rule is broken.
     RuleBroken = 5,
 }
@@ -76,9 +76,9 @@ impl Fault {
     /// All faults in the order of their numbers.
     pub const ALL: [Fault; 5] = [
         Fault::TooFewBytes,
-        Fault::LengthOutOfBounds,
+        Fault::LengthOutOfRange,
         Fault::UnknownCode,
-        Fault::WrongLength,
+        Fault::LengthNotOfKind,
         Fault::RuleBroken,
     ];
 
@@ -92,9 +92,9 @@ impl fmt::Display for Fault {
     fn fmt(&self, f: &mut fmt::Formatter) -> fmt::Result {
         f.write_str(match self {
             Fault::TooFewBytes => "fewer than 8 bytes remain",
-            Fault::LengthOutOfBounds => "the length is below 8 or beyond the buffer",
+            Fault::LengthOutOfRange => "the length is below 8 or beyond the buffer",
             Fault::UnknownCode => "the code is unknown",
-            Fault::WrongLength => "the length is not that of the kind",
+            Fault::LengthNotOfKind => "the length is not that of the kind",
             Fault::RuleBroken => "a content rule is broken",
         })
     }

@@ -70,9 +70,9 @@ fn every_fault_takes_up_its_bytes() {
     let rest = [&[0x20, 0, 0, 0, 13, 0, 0, 0, 1, 0, 0, 0], &wakeup[..4]].concat();
     let cases = [
         (Fault::TooFewBytes, vec![1; 7]),
-        (Fault::LengthOutOfBounds, [&wakeup[..4], &[7], &rest].concat()),
+        (Fault::LengthOutOfRange, [&wakeup[..4], &[7], &rest].concat()),
         (Fault::UnknownCode, bytes(0x43, &[1])),
-        (Fault::WrongLength, bytes(0x20, &[15, 0, 0])),
+        (Fault::LengthNotOfKind, bytes(0x20, &[15, 0, 0])),
         (Fault::RuleBroken, bytes(0x41, &[4])),
     ];
     for (number, (fault, bytes)) in (1..).zip(&cases) {
