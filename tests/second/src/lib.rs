@@ -10,12 +10,16 @@
 //! - `cargo run --release --bin registers` compares the two registers on drawn calls,
 //! - `cargo run --release --bin sessions` compares the buses on random sessions, and
 //!   holds demand 3 with the registers of their nodes,
+//! - `cargo run --release --bin memory` runs the three comparisons with what is lent
+//!   to the library in blocks of its own (`tests/memory.sh`),
 //! - `cargo run --release --bin bench` measures both sides against each other.
 //!
 //! With the feature `bus`, a default one, the library's calls of the bus and of the
-//! register take part in the last three; without it the second program's register
+//! register take part in the last four; without it the second program's register
 //! stands in for the library's.
 
+pub mod apart;
+pub mod block;
 pub mod bus;
 pub mod bus_cases;
 pub mod bus_comparison;
@@ -31,6 +35,7 @@ pub mod invalid;
 pub mod lent;
 pub mod library;
 pub mod memory;
+pub mod misuse;
 pub mod node_registers;
 pub mod plants;
 pub mod random;
