@@ -12,7 +12,8 @@
 //!   holds demand 3 with the registers of their nodes,
 //! - `cargo run --release --bin memory` runs the three comparisons with what is lent
 //!   to the library in blocks of its own (`tests/memory.sh`),
-//! - `cargo run --release --bin bench` measures both sides against each other.
+//! - `cargo run --release --bin bench` measures both sides against each other, and
+//!   against C without a check.
 //!
 //! With the feature `bus`, a default one, the library's calls of the bus and of the
 //! register take part in the last four; without it the second program's register

@@ -1,0 +1,31 @@
+//! The floor, in C and without a check: `floor/floor.c`.
+
+#[cfg(feature = "bus")]
+use second::lent::{Slot, State};
+use second::library::KfOperation;
+
+// As it checks nothing, each of these is sound for what the benchmark gives it
+// and for little else.
+extern "C" {
+    pub fn floor_decode(at: *const u8, length: usize) -> u64;
+    pub fn floor_write(op: *const KfOperation, data: *const u8, to: *mut u8) -> usize;
+}
+
+#[cfg(feature = "bus")]
+extern "C" {
+    pub fn floor_submit(
+        state: *mut State,
+        slots: *mut Slot,
+        payload: *mut u8,
+        node: u32,
+        buffer: *const u8,
+    );
+    pub fn floor_round(
+        state: *mut State,
+        slots: *mut Slot,
+        payload: *mut u8,
+        queues: *mut u8,
+    ) -> u8;
+    pub fn floor_collect(state: *mut State, queues: *const u8, node: u32, buffer: *mut u8)
+        -> usize;
+}
