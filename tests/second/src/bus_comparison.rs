@@ -93,6 +93,15 @@ impl Comparison {
         }
     }
 
+    /// Plays sessions until there are enough calls, or something differs.
+    pub fn run(&mut self, seed: u64, calls: u64) -> Compared {
+        let mut cases = Cases::new(seed);
+        while self.tally.calls() < calls {
+            self.session(&mut cases, calls - self.tally.calls())?;
+        }
+        Ok(())
+    }
+
     /// Plays a session of at most `calls` calls.
     pub fn session(&mut self, cases: &mut Cases, calls: u64) -> Compared {
         self.change(|memory, _| cases.scramble(memory));

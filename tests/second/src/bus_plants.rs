@@ -34,7 +34,7 @@ impl Calls for Planted {
 }
 
 /// The wrong buses by name.
-pub const PLANTS: [(&str, Alteration); 52] = [
+pub const PLANTS: [(&str, Alteration); 54] = [
     ("every call is refused", |played| played.refuse(3)),
     ("every round is idle", always_idle),
     ("a round only raises its number", only_raise_number),
@@ -85,6 +85,8 @@ pub const PLANTS: [(&str, Alteration); 52] = [
     ("a Bus-Off node's faults are not answered", bus_off_unanswered),
     ("8 before 9", four_pending_first),
     ("a later Bus-Off makes room", later_room),
+    ("frames in front of a Bus-Off still count", count_removed),
+    ("nothing is asked behind a Bus-Off", unasked_behind_bus_off),
     ("a refused submit has written", written_before_refusal),
     ("a refused round has written", written_by_refused_round),
     ("a buffer as long as the queue is too small", exact_room_refused),
@@ -466,8 +468,10 @@ fn take_4087(played: &mut Played) {
 fn after_bus_off(played: &mut Played, keep_queue: bool) {
     let Some((node, buffer)) = played.submitted() else { return };
     let mut operations = codec::operations(buffer).map(|(op, _)| op);
-    let bus_off = Ok(Operation::Status { status: codec::BUS_OFF });
-    if played.answer.number == 0 && operations.next() == Some(bus_off) && operations.count() == 0 {
+    if played.answer.number == 0
+        && operations.next() == Some(Ok(Operation::BUS_OFF))
+        && operations.count() == 0
+    {
         let (before, after) =
             (&played.before.state.nodes[node], &mut played.answer.state.nodes[node]);
         if keep_queue {
@@ -500,22 +504,39 @@ fn bus_off_unanswered(played: &mut Played) {
 }
 
 fn four_pending_first(played: &mut Played) {
-    let Some((node, buffer)) = played.submitted() else { return };
+    if played.answer.number == 9 && too_many_transmits(played) {
+        played.answer.number = 8;
+    }
+}
+
+/// Whether a buffer has more Transmits than its node's slots have room for.
+fn too_many_transmits(played: &Played) -> bool {
+    let Some((node, buffer)) = played.submitted() else { return false };
+    let Some(entry) = played.before.state.nodes.get(node) else { return false };
     let operations = codec::operations(buffer).filter_map(|(op, _)| op.ok());
     let transmits = operations.filter(|op| op.transmit_id().is_some()).count();
-    if played.answer.number == 9 {
-        let entry = &played.before.state.nodes[node];
-        if !lent::is_bus_off(entry) && usize::from(entry.pending) + transmits > PENDING_CAPACITY {
-            played.answer.number = 8;
-        }
-    }
+    !lent::is_bus_off(entry) && usize::from(entry.pending) + transmits > PENDING_CAPACITY
 }
 
 fn later_room(played: &mut Played) {
     let Some((_, buffer)) = played.submitted() else { return };
-    let bus_off = Ok(Operation::Status { status: codec::BUS_OFF });
     let last = codec::operations(buffer).last();
-    if played.answer.number == 9 && last.is_some_and(|(op, _)| op == bus_off) {
+    if played.answer.number == 9 && last.is_some_and(|(op, _)| op == Ok(Operation::BUS_OFF)) {
+        played.answer.number = 0;
+    }
+}
+
+fn count_removed(played: &mut Played) {
+    if played.answer.number == 0 && too_many_transmits(played) {
+        played.refuse(8);
+    }
+}
+
+/// Of a buffer that starts with it.
+fn unasked_behind_bus_off(played: &mut Played) {
+    let Some((_, buffer)) = played.submitted() else { return };
+    let first = codec::operations(buffer).next();
+    if let (8 | 9, Some((Ok(Operation::BUS_OFF), _))) = (played.answer.number, first) {
         played.answer.number = 0;
     }
 }

@@ -37,6 +37,15 @@ pub enum BadInjection {
     BusOff,
 }
 
+/// The step of a buffer by which it is refused.
+#[derive(Clone, Copy, Debug, PartialEq, Eq, PartialOrd, Ord)]
+pub enum FailingStep {
+    First,
+    Later,
+    /// A later one, and the buffer has a Bus-Off in front of it.
+    BehindBusOff,
+}
+
 /// How large the caller's buffer is, of a queue that holds something.
 #[derive(Clone, Copy, Debug, PartialEq, Eq, PartialOrd, Ord)]
 pub enum Room {
@@ -54,10 +63,9 @@ pub enum Outcome {
     InvalidIn(CallKind),
     /// A node number that is attached in its low byte.
     WideNode(CallKind),
-    /// The step of a buffer that fails is its first, or a later one.
     Failed {
         number: u8,
-        later: bool,
+        step: FailingStep,
     },
     /// Refusal 9 by the queue of another node.
     WakeupFailed,
@@ -157,16 +165,21 @@ impl BusTally {
     /// A submit that is refused by one of its steps: the first prefix of the
     /// buffer that is refused ends with it.
     fn failed(&mut self, before: &Bus, node: usize, buffer: &[u8], number: u8) {
-        let mut end = 0;
-        for (place, (op, bytes)) in codec::operations(buffer).enumerate() {
+        let (mut end, mut step) = (0, FailingStep::First);
+        for (op, bytes) in codec::operations(buffer) {
             end += bytes.len();
             if before.clone().submit(node, &buffer[..end]).is_err() {
-                self.rows.count(Outcome::Failed { number, later: place > 0 });
+                self.rows.count(Outcome::Failed { number, step });
                 if op == Ok(Operation::Wakeup) {
                     self.rows.count(Outcome::WakeupFailed);
                 }
                 return;
             }
+            step = match step {
+                _ if op == Ok(Operation::BUS_OFF) => FailingStep::BehindBusOff,
+                FailingStep::First => FailingStep::Later,
+                passed => passed,
+            };
         }
     }
 
@@ -260,7 +273,8 @@ fn outcomes() -> Vec<Outcome> {
     all.extend([Submit, Round, Collect].map(Outcome::InvalidIn));
     all.extend([Submit, Collect].map(Outcome::WideNode));
     for number in [8, 9] {
-        all.extend([false, true].map(|later| Outcome::Failed { number, later }));
+        let steps = [FailingStep::First, FailingStep::Later, FailingStep::BehindBusOff];
+        all.extend(steps.map(|step| Outcome::Failed { number, step }));
     }
     use BadInjection::{BusOff, Code, NotAttached, WideCode};
     all.extend([Code, WideCode, NotAttached, BusOff].map(Outcome::BadInjection));
@@ -282,11 +296,13 @@ impl fmt::Display for Outcome {
             Outcome::Invalid(invalid) => write!(f, "invalid, {invalid}"),
             Outcome::InvalidIn(call) => write!(f, "{call:?} refused with 3"),
             Outcome::WideNode(call) => write!(f, "{call:?}, node number attached in its low byte"),
-            Outcome::Failed { number, later: false } => {
-                write!(f, "Submit refused with {number} by its first step")
-            }
-            Outcome::Failed { number, later: true } => {
-                write!(f, "Submit refused with {number} by a later step")
+            Outcome::Failed { number, step } => {
+                let step = match step {
+                    FailingStep::First => "its first step",
+                    FailingStep::Later => "a later step",
+                    FailingStep::BehindBusOff => "a step behind its Bus-Off",
+                };
+                write!(f, "Submit refused with {number} by {step}")
             }
             other => write!(f, "{other:?}"),
         }

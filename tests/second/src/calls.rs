@@ -60,7 +60,7 @@ impl Calls {
     /// other nodes are Bus-Off, so that nothing else is queued.
     pub fn hoarding_call(&mut self, bus: &Bus) -> Call {
         if let Some(node) = (0..bus.nodes.len()).find(|&node| self.is_in_the_way(bus, node)) {
-            let buffer = Operation::Status { status: codec::BUS_OFF }.encode(&[]);
+            let buffer = Operation::BUS_OFF.encode(&[]);
             return Call::Submit { node, buffer };
         }
         let node = self.hoarder;
@@ -154,7 +154,9 @@ impl Calls {
 
     fn buffer(&mut self, node: &Node) -> Vec<u8> {
         let mut buffer = Vec::new();
-        for _ in 0..self.random.below(6) {
+        // A fifth frame behind a Bus-Off and the way back takes seven.
+        let bound = if self.random.once_in(8) { 24 } else { 6 };
+        for _ in 0..self.random.below(bound) {
             buffer.extend(self.operation(node));
         }
         if self.random.once_in(12) {

@@ -236,6 +236,9 @@ pub fn name(code: u32) -> Option<&'static str> {
 }
 
 impl Operation {
+    /// Status Bus-Off.
+    pub const BUS_OFF: Operation = Operation::Status { status: BUS_OFF };
+
     pub fn code(&self) -> u32 {
         match self {
             Operation::FormatError { .. } => FORMAT_ERROR,

@@ -5,7 +5,7 @@ use std::fmt::{self, Debug, Write as _};
 use kettlefrost::raw;
 
 use crate::codec::{self, Operation, Reading};
-use crate::generate::Case;
+use crate::generate::{Case, Generator};
 use crate::records::UnknownCode;
 use crate::tally::Tally;
 
@@ -133,8 +133,17 @@ impl<L: Codec, R: Codec> Comparison<L, R> {
         Comparison { left, right, tally: Tally::new() }
     }
 
+    /// Runs generated cases until there are enough, or two answers differ.
+    pub fn run(&mut self, seed: u64, cases: u64) -> Result<(), Box<Difference>> {
+        let mut generator = Generator::new(seed);
+        while self.tally.cases() < cases {
+            self.case(&generator.case())?;
+        }
+        Ok(())
+    }
+
     /// Runs one case on both sides.
-    pub fn run(&mut self, case: &Case) -> Result<(), Box<Difference>> {
+    fn case(&mut self, case: &Case) -> Result<(), Box<Difference>> {
         match case {
             Case::Read { buf, at } => self.read(buf, *at).map(drop),
             Case::Cuts { buf } => {

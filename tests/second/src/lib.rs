@@ -11,8 +11,13 @@
 //! - `cargo run --release --bin registers` compares the two registers on drawn calls,
 //! - `cargo run --release --bin sessions` compares the buses on random sessions, and
 //!   holds demand 3 with the registers of their nodes,
-//! - `cargo run --release --bin bench` measures both sides against each other.
+//! - `cargo run --release --bin memory` runs the three comparisons with what is lent
+//!   to the library in blocks of its own (`tests/memory.sh`),
+//! - `cargo run --release --bin bench` measures both sides against each other, and
+//!   against C without a check.
 
+pub mod apart;
+pub mod block;
 pub mod bus;
 pub mod bus_cases;
 pub mod bus_comparison;
@@ -27,6 +32,7 @@ pub mod generate;
 pub mod invalid;
 pub mod lent;
 pub mod memory;
+pub mod misuse;
 pub mod node_registers;
 pub mod plants;
 pub mod random;

@@ -71,26 +71,45 @@ pub trait Calls {
     fn play(&self, memory: &mut Memory, sizes: Sizes, call: &Call) -> raw::Answer;
 }
 
+/// What is lent in a call, and not a byte more.
+pub struct Lent<'a> {
+    pub slots: &'a mut [Slot],
+    pub payload: &'a mut [u8],
+    pub queues: &'a mut [u8],
+    /// The caller's buffer of a submit; empty in other calls.
+    pub submitted: &'a [u8],
+    /// The caller's buffer of a collect; empty in other calls.
+    pub room: &'a mut [u8],
+}
+
+/// A bus that sees of the memory what is lent to it.
+pub trait LentCalls {
+    fn answer(&self, state: State, lent: Lent, call: &Call) -> raw::Answer;
+}
+
+impl<T: LentCalls> Calls for T {
+    fn play(&self, memory: &mut Memory, sizes: Sizes, call: &Call) -> raw::Answer {
+        let state = memory.state;
+        self.answer(state, memory.lend(sizes, call), call)
+    }
+}
+
 /// The calls of a module in the library's form.
 macro_rules! calls_of {
     ($side:ident, $module:ident) => {
-        impl Calls for $side {
-            fn play(&self, memory: &mut Memory, sizes: Sizes, call: &Call) -> raw::Answer {
-                let Memory { state, slots, payload, queues, buffer } = memory;
-                let slots = &mut slots[..sizes.slots];
-                let payload = &mut payload[..sizes.payload];
-                let queues = &mut queues[..sizes.queues];
+        impl LentCalls for $side {
+            fn answer(&self, state: State, lent: Lent, call: &Call) -> raw::Answer {
+                let Lent { slots, payload, queues, submitted, room } = lent;
                 match *call {
                     Call::Start { count } => $module::start(slots, payload, queues, count),
-                    Call::Submit { node, buffer: ref submitted } => {
-                        $module::submit(*state, slots, payload, queues, node, submitted)
+                    Call::Submit { node, .. } => {
+                        $module::submit(state, slots, payload, queues, node, submitted)
                     }
                     Call::Round { injection } => {
-                        $module::round(*state, slots, payload, queues, injection)
+                        $module::round(state, slots, payload, queues, injection)
                     }
-                    Call::Collect { node, room } => {
-                        let buffer = &mut buffer[..room];
-                        $module::collect(*state, slots, payload, queues, node, buffer)
+                    Call::Collect { node, .. } => {
+                        $module::collect(state, slots, payload, queues, node, room)
                     }
                 }
             }
@@ -117,6 +136,22 @@ impl Memory {
             payload: vec![0; PAYLOAD_BYTES + 1],
             queues: vec![0; QUEUE_BYTES + 1],
             buffer: vec![0; LARGEST_ROOM],
+        }
+    }
+
+    /// What is lent in this call.
+    pub fn lend<'a>(&'a mut self, sizes: Sizes, call: &'a Call) -> Lent<'a> {
+        let (submitted, room) = match call {
+            Call::Submit { buffer, .. } => (&buffer[..], 0),
+            Call::Collect { room, .. } => (&[][..], *room),
+            Call::Start { .. } | Call::Round { .. } => (&[][..], 0),
+        };
+        Lent {
+            slots: &mut self.slots[..sizes.slots],
+            payload: &mut self.payload[..sizes.payload],
+            queues: &mut self.queues[..sizes.queues],
+            submitted,
+            room: &mut self.buffer[..room],
         }
     }
 

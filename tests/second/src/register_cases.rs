@@ -161,7 +161,7 @@ impl RegisterCases {
             self.put_in(&mut pieces, piece);
         }
         if self.random.once_in(3) {
-            let mut bus_off = Operation::Status { status: codec::BUS_OFF }.encode(&[]);
+            let mut bus_off = Operation::BUS_OFF.encode(&[]);
             if self.random.once_in(2) {
                 bus_off.extend(Operation::Status { status: 1 }.encode(&[]));
             }

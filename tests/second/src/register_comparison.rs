@@ -121,7 +121,7 @@ impl RegisterComparison {
                 self.rows.count(Outcome::RefusedWithRest(answer.number));
             }
             let mut operations = codec::operations(buffer);
-            if answer.number == 12 && operations.any(|(op, _)| op == Ok(BUS_OFF)) {
+            if answer.number == 12 && operations.any(|(op, _)| op == Ok(Operation::BUS_OFF)) {
                 self.rows.count(Outcome::FullDespiteBusOff);
             }
             return;
@@ -159,7 +159,7 @@ impl RegisterComparison {
             };
             self.rows.count(Outcome::Taken(call, op.code()));
             frames += usize::from(op.transmit_id().is_some());
-            if call == RegisterCall::Enter && op == BUS_OFF {
+            if call == RegisterCall::Enter && op == Operation::BUS_OFF {
                 bus_off = true;
                 if !open.is_empty() {
                     self.rows.count(Outcome::BusOffWithOpen);
@@ -182,8 +182,6 @@ impl RegisterComparison {
         }
     }
 }
-
-const BUS_OFF: Operation = Operation::Status { status: codec::BUS_OFF };
 
 fn agree(
     call: impl FnOnce() -> String,

@@ -197,9 +197,8 @@ fn pass_over_unknown(played: &mut Played) {
 }
 
 fn note_collected_status(played: &mut Played) {
-    let bus_off = Ok(Operation::Status { status: codec::BUS_OFF });
     let mut operations = codec::operations(played.buffer);
-    if played.is(Read, 0) && operations.any(|(op, _)| op == bus_off) {
+    if played.is(Read, 0) && operations.any(|(op, _)| op == Ok(Operation::BUS_OFF)) {
         played.answer.register = raw::Register { off: 1, ..Second.new_register() };
     }
 }

@@ -2,12 +2,12 @@
 
 use std::fmt;
 
-use crate::bus::{Bus, Injection, Node, Round};
+use crate::bus::{Bus, Injection, Node, Round, LONGEST_BUFFER};
 use crate::codec::{self, Operation};
 use crate::counts::Counts;
 use crate::generate::CODES;
 use crate::register::closed_id;
-use crate::session::{Answer, Call, Done};
+use crate::session::{self, Answer, Call, Done};
 
 #[derive(Clone, Copy, Debug, PartialEq, Eq, PartialOrd, Ord)]
 pub enum CallKind {
@@ -53,6 +53,16 @@ pub enum Outcome {
     Removed(Removal),
     /// Closings in the queue of a node that went Bus-Off.
     ClosingsDropped,
+    /// A Transmit behind a Bus-Off that removed frames of the same buffer:
+    /// without effect, or accepted because the node is back.
+    BehindBusOff {
+        back: bool,
+    },
+    /// A buffer that would have been refused but for its Bus-Off.
+    BusOffMadeRoom(u8),
+    EmptyBuffer,
+    /// A buffer of 4,086 bytes that was taken.
+    LongestBuffer,
     Idle {
         largest_round_number: bool,
     },
@@ -69,7 +79,9 @@ pub enum Outcome {
         detector: bool,
         sender: bool,
     },
-    QueueFilled,
+    QueueFilled(CallKind),
+    /// Refusal 9 for want of a single byte.
+    OneByteShort(CallKind),
     CollectedNothing,
     CollectedExactly,
     /// A closing that a register read.
@@ -107,7 +119,7 @@ impl SessionTally {
     pub fn call(&mut self, before: &Bus, call: &Call, answer: &Answer, after: &Bus) {
         match (call, answer) {
             (call, &Err(number)) => self.refused(before, call, number),
-            (Call::Submit { node, buffer }, Ok(_)) => self.submitted(&before.nodes[*node], buffer),
+            (Call::Submit { node, buffer }, Ok(_)) => self.submitted(before, *node, buffer),
             (Call::Round { .. }, &Ok(Done::Round(round))) => self.round(before, round, after),
             (Call::Collect { room, .. }, Ok(Done::Collected(bytes))) => {
                 self.collected(bytes, *room);
@@ -115,12 +127,15 @@ impl SessionTally {
             (call, answer) => unreachable!("{answer:?} to {call:?}"),
         }
         for (before, after) in before.nodes.iter().zip(&after.nodes) {
-            self.queued(before, after);
+            self.queued(kind(call), before, after);
         }
     }
 
     fn refused(&mut self, before: &Bus, call: &Call, number: u8) {
         self.rows.count(Outcome::Refused(kind(call), number));
+        if number == 9 && fits_with_a_byte_more(before, call) {
+            self.rows.count(Outcome::OneByteShort(kind(call)));
+        }
         if let (&Call::Round { injection }, 9) = (call, number) {
             if fits_without_losses(before, injection) {
                 self.rows.count(Outcome::FullByArbitrationLost);
@@ -128,19 +143,34 @@ impl SessionTally {
         }
     }
 
-    fn submitted(&mut self, before: &Node, buffer: &[u8]) {
-        let mut bus_off = before.is_bus_off();
-        let (mut old, mut new) = (before.pending.len(), 0);
-        let mut closings = closings(&before.queue).count();
+    fn submitted(&mut self, before: &Bus, node: usize, buffer: &[u8]) {
+        match buffer.len() {
+            0 => self.rows.count(Outcome::EmptyBuffer),
+            LONGEST_BUFFER => self.rows.count(Outcome::LongestBuffer),
+            _ => {}
+        }
+        if let Some(number) = refusal_without_bus_off(before, node, buffer) {
+            self.rows.count(Outcome::BusOffMadeRoom(number));
+        }
+        let node = &before.nodes[node];
+        let mut bus_off = node.is_bus_off();
+        let (mut old, mut new, mut removed) = (node.pending.len(), 0, 0);
+        let mut closings = closings(&node.queue).count();
         for (op, bytes) in codec::operations(buffer) {
             self.rows.count(Outcome::Step { step: step(op, bytes), bus_off });
             match op {
-                Ok(Operation::Status { status: codec::BUS_OFF }) => {
+                Ok(Operation::BUS_OFF) => {
                     self.went_bus_off(old, new, closings);
+                    removed += new;
                     (bus_off, old, new, closings) = (true, 0, 0, 0);
                 }
                 Ok(Operation::Status { .. }) => bus_off = false,
-                Ok(op) if op.transmit_id().is_some() && !bus_off => new += 1,
+                Ok(op) if op.transmit_id().is_some() => {
+                    if removed > 0 {
+                        self.rows.count(Outcome::BehindBusOff { back: !bus_off });
+                    }
+                    new += usize::from(!bus_off);
+                }
                 _ => {}
             }
         }
@@ -196,7 +226,7 @@ impl SessionTally {
     }
 
     /// What a queue was given; where it was emptied first, what is in it.
-    fn queued(&mut self, before: &Node, after: &Node) {
+    fn queued(&mut self, call: CallKind, before: &Node, after: &Node) {
         let kept = if after.queue.starts_with(&before.queue) { before.queue.len() } else { 0 };
         for (op, _) in codec::operations(&after.queue[kept..]) {
             let op = op.expect("queues hold sound operations");
@@ -207,7 +237,7 @@ impl SessionTally {
             }
         }
         if after.room() == 0 && before.room() != 0 {
-            self.rows.count(Outcome::QueueFilled);
+            self.rows.count(Outcome::QueueFilled(call));
         }
     }
 }
@@ -269,11 +299,35 @@ fn fits_without_losses(bus: &Bus, injection: Option<Injection>) -> bool {
     buffering.round(injection) != Err(9)
 }
 
+/// Whether a call refused with 9 is not if each queue holds a byte less.
+fn fits_with_a_byte_more(bus: &Bus, call: &Call) -> bool {
+    let mut roomier = bus.clone();
+    for node in &mut roomier.nodes {
+        node.queue.pop();
+    }
+    session::answer(&mut roomier, call) != Err(9)
+}
+
+/// What an accepted buffer is refused with when its Bus-Offs are left out.
+fn refusal_without_bus_off(bus: &Bus, node: usize, buffer: &[u8]) -> Option<u8> {
+    let others: Vec<&[u8]> = codec::operations(buffer)
+        .filter(|(op, _)| *op != Ok(Operation::BUS_OFF))
+        .map(|(_, bytes)| bytes)
+        .collect();
+    let others = others.concat();
+    let has_bus_off = others.len() < buffer.len();
+    has_bus_off.then(|| bus.clone().submit(node, &others).err()).flatten()
+}
+
 /// Every outcome there is.
 fn outcomes() -> Vec<Outcome> {
     use Outcome::*;
     let mut all = vec![ClosingsDropped, Aged, FullByArbitrationLost, LargestRoundNumberReached];
-    all.extend([QueueFilled, CollectedNothing, CollectedExactly]);
+    all.extend([EmptyBuffer, LongestBuffer, CollectedNothing, CollectedExactly]);
+    all.extend([8, 9].map(BusOffMadeRoom));
+    for call in [CallKind::Submit, CallKind::Round] {
+        all.extend([QueueFilled(call), OneByteShort(call)]);
+    }
     all.extend((2..=8).map(|nodes| Started { nodes }));
     all.push(Refused(CallKind::Start, 2));
     all.extend([4, 5, 8, 9].map(|number| Refused(CallKind::Submit, number)));
@@ -286,6 +340,7 @@ fn outcomes() -> Vec<Outcome> {
         all.push(Removed(Removal::Lost { to_own_frame: yes }));
         all.push(Idle { largest_round_number: yes });
         all.push(EqualIds { same_node: yes });
+        all.push(BehindBusOff { back: yes });
         all.extend([false, true].map(|sender| QueuedBusError { detector: yes, sender }));
     }
     // Configuration and Status are for the bus alone.

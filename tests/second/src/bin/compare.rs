@@ -4,8 +4,7 @@ use std::env;
 use std::process::ExitCode;
 use std::time::Instant;
 
-use second::comparison::{Codec, Comparison, Difference, Library, Second};
-use second::generate::Generator;
+use second::comparison::{Comparison, Library, Second};
 use second::plants::PLANTS;
 
 const USAGE: &str = "usage: compare [--seed N] [--cases N]";
@@ -30,25 +29,13 @@ impl Options {
     }
 }
 
-/// Runs generated cases until there are enough, or two answers differ.
-fn run<L: Codec, R: Codec>(
-    comparison: &mut Comparison<L, R>,
-    options: &Options,
-) -> Result<(), Box<Difference>> {
-    let mut generator = Generator::new(options.seed);
-    while comparison.tally.cases() < options.cases {
-        comparison.run(&generator.case())?;
-    }
-    Ok(())
-}
-
 /// Compares the second codec with each wrong one; says whether every wrong one
 /// was found. The library is left out, so that only what was planted differs.
 fn self_check(options: &Options) -> bool {
     let mut all = true;
     for (name, plant) in PLANTS {
         let mut comparison = Comparison::new(Second, plant);
-        let found = run(&mut comparison, options).is_err();
+        let found = comparison.run(options.seed, options.cases).is_err();
         let cases = comparison.tally.cases();
         if found {
             println!("self-check: {name}: found after {cases} cases");
@@ -71,7 +58,7 @@ fn main() -> ExitCode {
         return ExitCode::FAILURE;
     }
     let mut comparison = Comparison::new(Library, Second);
-    if let Err(difference) = run(&mut comparison, &options) {
+    if let Err(difference) = comparison.run(options.seed, options.cases) {
         println!("{difference}");
         println!("compare: left is the library, right the second codec");
         return ExitCode::FAILURE;

@@ -5,8 +5,7 @@ use std::env;
 use std::process::ExitCode;
 use std::time::Instant;
 
-use second::bus_cases::Cases;
-use second::bus_comparison::{Comparison, Difference};
+use second::bus_comparison::Comparison;
 use second::bus_plants::{Planted, PLANTS};
 use second::memory::{Calls, Library, Second};
 use second::register_plants::{PlantedRegister, SESSION_PLANTS};
@@ -37,15 +36,6 @@ impl Options {
 /// Calls in which a wrong bus has to be found.
 const SELF_CHECK_CALLS: u64 = 1_000_000;
 
-/// Plays sessions until there are enough calls, or something differs.
-fn run(comparison: &mut Comparison, seed: u64, calls: u64) -> Result<(), Box<Difference>> {
-    let mut cases = Cases::new(seed);
-    while comparison.tally.calls() < calls {
-        comparison.session(&mut cases, calls - comparison.tally.calls())?;
-    }
-    Ok(())
-}
-
 /// Compares the second bus with each wrong one, and plays it with each wrong
 /// register; says whether every wrong one was found. The library is left out,
 /// so that only what was planted differs.
@@ -65,7 +55,7 @@ fn self_check(seed: u64) -> bool {
 }
 
 fn is_found(name: &str, mut comparison: Comparison, seed: u64) -> bool {
-    let found = run(&mut comparison, seed, SELF_CHECK_CALLS).is_err();
+    let found = comparison.run(seed, SELF_CHECK_CALLS).is_err();
     let verdict = if found { "found after" } else { "not found in" };
     println!("self-check: {name}: {verdict} {} calls", comparison.tally.calls());
     found
@@ -89,7 +79,7 @@ fn main() -> ExitCode {
     let sides: Vec<(_, Box<dyn Calls>)> =
         vec![("second bus", Box::new(Second)), ("library", Box::new(Library))];
     let mut comparison = Comparison::new(sides, Box::new(Library));
-    if let Err(difference) = run(&mut comparison, options.seed, options.calls) {
+    if let Err(difference) = comparison.run(options.seed, options.calls) {
         println!("{difference}");
         println!("sessions: seed {}, call {}", options.seed, comparison.tally.calls());
         return ExitCode::FAILURE;

@@ -10,7 +10,8 @@ use second::lent::{self, Injection, Round, Slot, State, NODES, SLOTS};
 use second::memory;
 use second::memory::{Calls, Memory, Second, Sizes};
 
-use crate::measure::measure;
+use crate::floor;
+use crate::measure::{measure, Pass};
 
 /// Rounds in a pass: as many as there are frames.
 const ROUNDS: usize = SLOTS;
@@ -68,7 +69,7 @@ trait Way {
 }
 
 /// A state with its lent memory.
-#[derive(Clone)]
+#[derive(Clone, PartialEq)]
 struct Lent {
     state: State,
     slots: Vec<Slot>,
@@ -138,6 +139,45 @@ impl Way for InPlace {
     }
 }
 
+/// The floor: valid, and with room for all that comes.
+struct Floor;
+
+impl Way for Floor {
+    #[inline]
+    fn submit(lent: &mut Lent, node: u32, buffer: &[u8]) -> u8 {
+        let Lent { state, slots, payload, .. } = lent;
+        let (slots, payload) = (slots.as_mut_ptr(), payload.as_mut_ptr());
+        unsafe { floor::floor_submit(state, slots, payload, node, buffer.as_ptr()) };
+        0
+    }
+
+    #[inline]
+    fn round(lent: &mut Lent) -> u8 {
+        let Lent { state, slots, payload, queues } = lent;
+        let (slots, payload, queues) =
+            (slots.as_mut_ptr(), payload.as_mut_ptr(), queues.as_mut_ptr());
+        unsafe { floor::floor_round(state, slots, payload, queues) }
+    }
+
+    #[inline]
+    fn collect(lent: &mut Lent, node: u32, buffer: &mut [u8]) -> usize {
+        let Lent { state, queues, .. } = lent;
+        unsafe { floor::floor_collect(state, queues.as_ptr(), node, buffer.as_mut_ptr()) }
+    }
+}
+
+/// A generic function with each of the ways, in the order that is measured.
+macro_rules! of_each_way {
+    ($($function:ident)::+) => {
+        [
+            $($function)::+::<ByLibrary>,
+            $($function)::+::<ByCall>,
+            $($function)::+::<InPlace>,
+            $($function)::+::<Floor>,
+        ]
+    };
+}
+
 impl Lent {
     /// Eight nodes, and nothing pending.
     fn new() -> Lent {
@@ -205,6 +245,11 @@ impl Rounds<'_> {
         Rounds { lent, frame, next, id: SLOTS as u32, collected: vec![0; QUEUE_CAPACITY] }
     }
 
+    /// Whether state, lent memory and what was collected are the same.
+    fn has_same(&self, other: &Rounds) -> bool {
+        self.lent == other.lent && self.collected == other.collected
+    }
+
     /// Rounds of 32 frames each: the oldest of all wins, and its sender submits
     /// another. The queues are collected when they are full.
     fn pass<W: Way>(&mut self) -> u64 {
@@ -224,41 +269,34 @@ impl Rounds<'_> {
     }
 }
 
-fn measure_rounds(frame: &Frame) {
-    let mut buses = [(); 3].map(|()| Rounds::new(frame));
-    let [first, second, third] = &mut buses;
+fn measure_rounds<'a>(frame: &'a Frame) {
+    let passes: [fn(&mut Rounds<'a>) -> u64; 4] = of_each_way!(Rounds::pass);
+    let mut buses = passes.map(|pass| (pass, Rounds::new(frame)));
+    buses.iter_mut().for_each(|(pass, bus)| _ = pass(bus));
     let title = format!("full rounds with refill and collect, {}", frame.name);
-    let seconds = measure(
-        &title,
-        "round",
-        ROUNDS,
-        [
-            Box::new(|| first.pass::<ByLibrary>()),
-            Box::new(|| second.pass::<ByCall>()),
-            Box::new(|| third.pass::<InPlace>()),
-        ],
-    );
-    println!("  library          {:.0} rounds a second", 1.0 / seconds);
+    assert!(buses.iter().all(|(_, bus)| bus.has_same(&buses[0].1)), "{title}: the memory differs");
+    let ways = buses.each_mut().map(|(pass, bus)| Box::new(|| pass(bus)) as Pass);
+    measure(&title, "rounds", ROUNDS, ways);
 }
 
 /// Measures one call, again and again from the same state. What it leaves in
 /// memory is the same each time.
-fn measure_call(title: &str, lent: &Lent, calls: [fn(&mut Lent) -> u64; 3]) {
+fn measure_call(title: &str, units: &str, lent: &Lent, calls: [fn(&mut Lent) -> u64; 4]) {
     const CALLS: usize = 64;
-    let repeated = |call: fn(&mut Lent) -> u64| {
-        let mut lent = lent.clone();
-        let state = lent.state;
-        let pass = move || {
-            let mut total = 0;
-            for _ in 0..CALLS {
-                lent.state = state;
-                total += call(black_box(&mut lent));
-            }
-            total
-        };
-        Box::new(pass) as Box<dyn FnMut() -> u64>
+    let state = lent.state;
+    let mut lents = calls.map(|call| (call, lent.clone()));
+    lents.iter_mut().for_each(|(call, lent)| _ = call(lent));
+    assert!(lents.iter().all(|(_, lent)| *lent == lents[0].1), "{title}: the memory differs");
+    let repeated = |(call, lent): &mut (fn(&mut Lent) -> u64, Lent)| {
+        let mut total = 0;
+        for _ in 0..CALLS {
+            lent.state = state;
+            total += call(black_box(lent));
+        }
+        total
     };
-    measure(title, "call", CALLS, calls.map(repeated));
+    let ways = lents.each_mut().map(|way| Box::new(|| repeated(way)) as Pass);
+    measure(title, units, CALLS, ways);
 }
 
 fn round_call<W: Way>(lent: &mut Lent) -> u64 {
@@ -289,16 +327,16 @@ pub fn measure_all() {
     }
 
     let mut full = Lent::full(&can);
-    let rounds = [round_call::<ByLibrary>, round_call::<ByCall>, round_call::<InPlace>];
-    measure_call("one round, 32 frames pending", &full, rounds);
+    let rounds = of_each_way!(round_call);
+    measure_call("one round, 32 frames pending", "rounds", &full, rounds);
 
-    let submits = [submit_call::<ByLibrary>, submit_call::<ByCall>, submit_call::<InPlace>];
-    measure_call("submit of one CAN Transmit, nothing pending", &Lent::new(), submits);
+    let submits: [fn(&mut Lent) -> u64; 4] = of_each_way!(submit_call);
+    measure_call("submit of one CAN Transmit, nothing pending", "submits", &Lent::new(), submits);
     let mut one_free = full.clone();
     one_free.state.nodes[7].pending = 3;
-    measure_call("submit of one CAN Transmit, 31 frames pending", &one_free, submits);
+    measure_call("submit of one CAN Transmit, 31 frames pending", "submits", &one_free, submits);
 
     full.state.nodes[3].fill = QUEUE_CAPACITY as u16;
-    let collects = [collect_call::<ByLibrary>, collect_call::<ByCall>, collect_call::<InPlace>];
-    measure_call("collect of a full queue, 32 frames pending", &full, collects);
+    let collects = of_each_way!(collect_call);
+    measure_call("collect of a full queue, 32 frames pending", "collects", &full, collects);
 }

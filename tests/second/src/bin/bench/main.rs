@@ -1,11 +1,14 @@
-//! Throughput of the proved library against the second program: the same input,
-//! in the same run, given as ratios.
+//! Throughput of the proved library against the second program, and against C
+//! without any check as the floor: the same input, in the same run, a second and
+//! as ratios.
 //!
 //! The library is reached by a call that the compiler cannot see through. The
 //! second program is measured twice: behind a call of the same kind, and as it
-//! is best used, inlined into the loop.
+//! is best used, inlined into the loop. The floor is called as the library is,
+//! but goes through a whole stream when it decodes.
 
 mod bus;
+mod floor;
 mod measure;
 
 use std::hint::black_box;
@@ -14,7 +17,7 @@ use kettlefrost::raw;
 use second::codec::{self, Operation, Reading};
 use second::generate::Generator;
 
-use measure::{measure, Pass, SAMPLES};
+use measure::{measure, Ways, SAMPLES};
 
 const STREAM_BYTES: usize = 64 * 1024;
 const SEED: u64 = 11_898;
@@ -62,9 +65,9 @@ impl Stream {
         })
     }
 
-    fn measure(&self, what: &str, ways: [Pass; 3]) {
+    fn measure(&self, what: &str, ways: Ways) {
         let title = format!("{what}, {}", self.name);
-        measure(&title, "operation", self.operations.len(), ways);
+        measure(&title, "operations", self.operations.len(), ways);
     }
 }
 
@@ -155,31 +158,49 @@ fn encode_second(
     at as u64
 }
 
+// The streams are valid, and what they are written to has their length.
+
+fn decode_floor(buf: &[u8]) -> u64 {
+    unsafe { floor::floor_decode(buf.as_ptr(), buf.len()) }
+}
+
+fn encode_floor(stream: &Stream, out: &mut [u8]) -> u64 {
+    let mut at = 0;
+    for (op, data) in &stream.flat {
+        at += unsafe { floor::floor_write(op, data.as_ptr(), out[at..].as_mut_ptr()) };
+    }
+    at as u64
+}
+
 fn measure_decode(stream: &Stream) {
     let bytes = &stream.bytes[..];
-    let ways: [Pass; 3] = [
+    let ways: Ways = [
         Box::new(|| decode_library(black_box(bytes))),
         Box::new(|| decode_second(black_box(bytes), read_by_call)),
         Box::new(|| decode_second(black_box(bytes), codec::read)),
+        Box::new(|| decode_floor(black_box(bytes))),
     ];
     stream.measure("decode", ways);
 }
 
 fn measure_encode(stream: &Stream) {
-    let mut outs = [const { Vec::new() }; 3];
+    let mut outs = [const { Vec::new() }; 4];
     outs.fill(vec![0; stream.bytes.len()]);
-    let [out_1, out_2, out_3] = &mut outs;
-    let ways: [Pass; 3] = [
+    let [out_1, out_2, out_3, out_4] = &mut outs;
+    let ways: Ways = [
         Box::new(|| encode_library(black_box(stream), black_box(out_1))),
         Box::new(|| encode_second(black_box(stream), black_box(out_2), write_by_call)),
         Box::new(|| encode_second(black_box(stream), black_box(out_3), codec::write)),
+        Box::new(|| encode_floor(black_box(stream), black_box(out_4))),
     ];
     stream.measure("encode", ways);
     assert!(outs.iter().all(|out| *out == stream.bytes), "encode: the bytes differ");
 }
 
 fn main() {
-    println!("ratio: library throughput / Rust throughput, median (min..max) of {SAMPLES} samples");
+    println!(
+        "medians of {SAMPLES} samples; ratio: library throughput / that of the row (min..max)"
+    );
     for stream in [Stream::can(), Stream::mixed()] {
         println!("{} operations, {} bytes", stream.operations.len(), stream.bytes.len());
         measure_decode(&stream);

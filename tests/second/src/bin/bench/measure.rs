@@ -6,8 +6,14 @@ use std::time::Instant;
 pub const SAMPLES: usize = 21;
 const SAMPLE_SECONDS: f64 = 0.025;
 
+/// The library first, as the others are held against it.
+const NAMES: [&str; 4] = ["library", "Rust by call", "Rust inlined", "C, no checks"];
+
 /// One way to go through a stream once; gives a number to check it by.
 pub type Pass<'a> = Box<dyn FnMut() -> u64 + 'a>;
+
+/// The ways in the order of their names.
+pub type Ways<'a> = [Pass<'a>; 4];
 
 /// Seconds for each pass, over `passes` of them.
 fn time(pass: &mut Pass, passes: usize) -> f64 {
@@ -37,31 +43,25 @@ fn spread(mut values: Vec<f64>) -> (f64, f64, f64) {
     (values[values.len() / 2], values[0], values[values.len() - 1])
 }
 
-/// Measures the three ways in turn, sample by sample, and prints their row.
-/// Each pass does `steps` of what `unit` names. Gives the median of the
-/// library's seconds for one of them.
-pub fn measure(title: &str, unit: &str, steps: usize, mut ways: [Pass; 3]) -> f64 {
-    let [library, by_call, inlined] = ways.each_mut().map(|pass| pass());
-    assert!(library == by_call && library == inlined, "{title}: the ways differ");
+/// Measures the ways in turn, sample by sample, and prints their rows. Each pass
+/// does `steps` of what `units` names.
+pub fn measure(title: &str, units: &str, steps: usize, mut ways: Ways) {
+    let [library, others @ ..] = ways.each_mut().map(|pass| pass());
+    assert!(others.iter().all(|&other| other == library), "{title}: the ways differ");
 
     let passes = ways.each_mut().map(passes_in_sample);
-    let mut seconds = [const { Vec::new() }; 3];
+    let mut seconds = [const { Vec::new() }; 4];
     for _ in 0..SAMPLES {
-        for way in 0..3 {
-            seconds[way].push(time(&mut ways[way], passes[way]));
+        for way in 0..ways.len() {
+            seconds[way].push(time(&mut ways[way], passes[way]) / steps as f64);
         }
     }
-    let [library, by_call, inlined] = &seconds;
-    let median = |seconds: &Vec<f64>| spread(seconds.clone()).0 / steps as f64;
-    println!("{title}:");
-    println!("  library          {:7.2} ns per {unit}", median(library) * 1e9);
-    for (name, second) in [("Rust by call", by_call), ("Rust inlined", inlined)] {
-        let ratios = second.iter().zip(library).map(|(second, library)| second / library);
+    println!("{title}, {units} a second:");
+    for (name, samples) in NAMES.iter().zip(&seconds) {
+        let (median, ..) = spread(samples.clone());
+        let ratios = samples.iter().zip(&seconds[0]).map(|(other, library)| other / library);
         let (ratio, smallest, largest) = spread(ratios.collect());
-        println!(
-            "  {name:<16} {:7.2} ns per {unit}, ratio {ratio:.2} ({smallest:.2}..{largest:.2})",
-            median(second) * 1e9
-        );
+        let millions = 1e-6 / median;
+        println!("  {name:<12} {millions:8.3} M   ratio {ratio:.2} ({smallest:.2}..{largest:.2})");
     }
-    median(library)
 }
