@@ -2,7 +2,6 @@
 ghost use mathlib.Core.Path.{_≡_};
 ghost use mathlib.Core.List.{[], _∷_};
 ghost use Prim.Native.Nat.{_-_, _≤_, _<_};
-ghost use lib.ListN.{length};
 ghost use Rattle.lines.specs.Text.{space, Holds, Gains, blanks, hexDigit, hexDigits, apart, hexBytes, field, named, GainsNumber};
 use libc::STDOUT_FILENO;
 
@@ -21,11 +20,9 @@ fn digit(d: u8) -> u8
     if d < 10 { b'0' + d } else { b'A' - 10 + d }
 }
 
-// Writes the first n bytes of a text.
-fn write_front(text: &[u8], n: usize)
-    requires { ⌜ n ≤ length (now text) ⌝ }
-{
-    io::write_all(STDOUT_FILENO, &text[..n]);
+// The one function that writes. That it does, and where, no contract can say.
+fn write(text: &[u8]) {
+    io::write_all(STDOUT_FILENO, text);
 }
 
 impl Line {
@@ -46,7 +43,7 @@ impl Line {
         let mut text = self.text;
         let mut at = self.length;
         if SPACE <= at {
-            write_front(&text, SPACE);
+            write(&text);
             at = 0;
         }
         text[at] = byte;
@@ -172,6 +169,7 @@ impl Line {
     pub fn end(self) {
         let line = self.put(b'\n');
         let text = line.text;
-        write_front(&text, line.length);
+        let n = line.length;
+        write(&text[..n]);
     }
 }

@@ -6,11 +6,6 @@ use Rattle.lines.proofs.Gaining.{has-room, put-behind, put-first}
 use Rattle.lines.proofs.Line.put.Statement.{statement}
 use Rattle.lines.proofs.Line.put.Tie as tie
 
-write-front-requires : tie.Need-write-front-requires
-write-front-requires c κs =
-    let s = c .before .before .before in
-    omega (arith, has-room (s .args .self) (s .good .0 .1 .1 .0 .1 .0 .1))
-
 array-write-text : tie.Need-array-write-text
 array-write-text c = ⊎-elim (λ w. omega arith) (λ w. omega arith) (c .if1 .came)
 
@@ -28,4 +23,4 @@ returns c =
     (c .before .if1 .came)
 
 pub put-spec : {M : Type 1} → statement M
-put-spec = tie.close (tie.spec (λ c. search needs) write-front-requires array-write-text add-t12 returns)
+put-spec = tie.close (tie.spec (λ c. search needs) (λ c κs. search needs) array-write-text add-t12 returns)
