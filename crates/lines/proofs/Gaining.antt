@@ -1,15 +1,15 @@
 -- Laws of what a line gains: a byte, and bytes behind bytes.
 -- Assumes nothing.
-use mathlib.Core.Path.{_≡_, refl, sym, ap, _∙_}
+use mathlib.Core.Path.{_≡_, refl, sym, _∙_}
 use mathlib.Core.List.{List, [], _∷_, _++_, map}
 use Prim.Native.Nat.{ℕ, _+_, _≤_, _<_}
 use native.Mathlib.Numerals.{add-one}
 use native.Mathlib.Omega.{arith}
 use borrow.Author.Tests.{lt-ltb, le-ltb}
-use lib.ListN.{length, take, set, length-append, length-map}
+use lib.ListN.{length, set, length-append, length-map}
 use lib.Seq.{take-suc-set}
 use Rattle.lines.specs.declared.Line.{Line}
-use Rattle.lines.specs.Text.{space, Holds, after, afterAll, Gains}
+use Rattle.lines.specs.Text.{space, after, afterAll, Gains}
 
 pub after-append : (text xs ys : List ℕ) → afterAll text (xs ++ ys) ≡ afterAll (afterAll text xs) ys
 after-append text [] ys = refl

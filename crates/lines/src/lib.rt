@@ -35,7 +35,7 @@ impl Line {
         }
     }
 
-    // A full line is written first, which leaves it empty.
+    // One byte. A full line is written first, which leaves it empty.
     fn put(self, byte: u8) -> Self
         ensures { λ r. ⌜ r .length ≤ space ⌝ }
         ensures { λ r. ⌜ Gains self r (byte ∷ []) ⌝ }
@@ -166,6 +166,7 @@ impl Line {
         self.name(name).decimal(x as u64, width)
     }
 
+    // A line feed, and the line is written.
     pub fn end(self) {
         let line = self.put(b'\n');
         let text = line.text;
