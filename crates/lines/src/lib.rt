@@ -1,4 +1,8 @@
 // A line of text on its way to standard output. It is written where it ends, and in parts where it is longer than SPACE.
+ghost use mathlib.Core.Path.{_≡_};
+ghost use mathlib.Core.List.{[], _∷_};
+ghost use Prim.Native.Nat.{_-_, _≤_, _<_};
+ghost use Rattle.lines.specs.Text.{space, Holds, Gains, blanks, hexDigit, hexDigits, apart, hexBytes, field, named, GainsNumber};
 use libc::STDOUT_FILENO;
 
 const SPACE: usize = 512;
@@ -8,48 +12,50 @@ pub struct Line {
     length: usize,
 }
 
-// The hexadecimal digit of the last four bits of x.
-fn digit(x: u8) -> u8 {
-    let d = x % 16;
+// The hexadecimal digit of a number.
+fn digit(d: u8) -> u8
+    requires { ⌜ d < 16 ⌝ }
+    ensures { λ r. ⌜ r ≡ hexDigit d ⌝ }
+{
     if d < 10 { b'0' + d } else { b'A' - 10 + d }
 }
 
-// Writes the first n bytes of a text.
-fn write_front(text: &[u8], n: usize) {
-    if n <= text.len() {
-        io::write_all(STDOUT_FILENO, &text[..n]);
-    }
+// The one function that writes. That it does, and where, no contract can say.
+fn write(text: &[u8]) {
+    io::write_all(STDOUT_FILENO, text);
 }
 
 impl Line {
-    pub fn new() -> Self {
+    pub fn new() -> Self
+        ensures { λ r. ⌜ Holds r [] ⌝ }
+    {
         Line {
             text: [0; SPACE],
             length: 0,
         }
     }
 
-    // Writes what is there, which leaves the line empty.
-    fn send(self) -> Self {
-        let text = self.text;
-        write_front(&text, self.length);
-        Line { text, length: 0 }
+    // One byte. A full line is written first, which leaves it empty.
+    fn put(self, byte: u8) -> Self
+        ensures { λ r. ⌜ r .length ≤ space ⌝ }
+        ensures { λ r. ⌜ Gains self r (byte ∷ []) ⌝ }
+    {
+        let mut text = self.text;
+        let mut at = self.length;
+        if SPACE <= at {
+            write(&text);
+            at = 0;
+        }
+        text[at] = byte;
+        Line {
+            text,
+            length: at + 1,
+        }
     }
 
-    fn put(self, byte: u8) -> Self {
-        let mut line = self;
-        if SPACE <= line.length {
-            line = line.send();
-        }
-        let at = line.length;
-        if at < SPACE {
-            line.text[at] = byte;
-            line.length = at + 1;
-        }
-        line
-    }
-
-    pub fn text(self, text: &[u8]) -> Self {
+    pub fn text(self, text: &[u8]) -> Self
+        ensures { λ r. ⌜ Gains self r (now (text .entry)) ⌝ }
+    {
         let mut line = self;
         let mut i = 0;
         while i < text.len() {
@@ -59,10 +65,13 @@ impl Line {
         line
     }
 
-    fn blanks(self, n: usize) -> Self {
+    // Blanks from one column up to another.
+    fn fill(self, from: usize, to: usize) -> Self
+        ensures { λ r. ⌜ Gains self r (blanks (to - from)) ⌝ }
+    {
         let mut line = self;
-        let mut i = 0;
-        while i < n {
+        let mut i = from;
+        while i < to {
             line = line.put(b' ');
             i += 1;
         }
@@ -70,76 +79,98 @@ impl Line {
     }
 
     // Blanks up to a column; the first column is 0.
-    pub fn column(self, column: usize) -> Self {
+    pub fn column(self, column: usize) -> Self
+        ensures { λ r. ⌜ Gains self r (blanks (column - self .length)) ⌝ }
+    {
         let length = self.length;
-        if length < column {
-            return self.blanks(column - length);
-        }
-        self
+        self.fill(length, column)
     }
 
     // A number, with blanks before it where it is shorter than the width.
-    pub fn decimal(self, x: u64, width: usize) -> Self {
+    pub fn decimal(self, x: u64, width: usize) -> Self
+        ensures { λ r. ⌜ GainsNumber self r [] x width ⌝ }
+    {
         let mut digits = [0u8; 20];
         let n = io::decimal(x, &mut digits);
-        let mut line = self;
-        if n < width {
-            line = line.blanks(width - n);
-        }
-        line.text(&digits[..n])
+        self.fill(n, width).text(&digits[..n])
     }
 
     // Two digits.
-    pub fn hex8(self, x: u8) -> Self {
-        self.put(digit(x / 16)).put(digit(x))
+    pub fn hex8(self, x: u8) -> Self
+        ensures { λ r. ⌜ Gains self r (hexDigits 2 x) ⌝ }
+    {
+        self.put(digit(x / 16)).put(digit(x % 16))
     }
 
     // Three digits.
-    pub fn hex12(self, x: u32) -> Self {
+    pub fn hex12(self, x: u32) -> Self
+        ensures { λ r. ⌜ Gains self r (hexDigits 3 x) ⌝ }
+    {
         self.put(digit((x / 256 % 16) as u8)).hex8((x % 256) as u8)
     }
 
     // Eight digits.
-    pub fn hex32(self, x: u32) -> Self {
+    pub fn hex32(self, x: u32) -> Self
+        ensures { λ r. ⌜ Gains self r (hexDigits 8 x) ⌝ }
+    {
         self.hex8((x / 16777216) as u8)
             .hex8((x / 65536 % 256) as u8)
             .hex8((x / 256 % 256) as u8)
             .hex8((x % 256) as u8)
     }
 
-    // Bytes, two digits each, one blank between.
-    pub fn hex(self, bytes: &[u8]) -> Self {
+    // Bytes, two digits each, one blank before each.
+    fn apart(self, bytes: &[u8]) -> Self
+        ensures { λ r. ⌜ Gains self r (apart (now (bytes .entry))) ⌝ }
+    {
         let mut line = self;
         let mut i = 0;
         while i < bytes.len() {
-            if 0 < i {
-                line = line.put(b' ');
-            }
-            line = line.hex8(bytes[i]);
+            line = line.put(b' ').hex8(bytes[i]);
             i += 1;
         }
         line
     }
 
-    // Bytes behind two blanks; nothing where there are none.
-    pub fn bytes(self, bytes: &[u8]) -> Self {
-        if 0 < bytes.len() {
-            return self.text(b"  ").hex(bytes);
+    // Bytes, two digits each, one blank between.
+    pub fn hex(self, bytes: &[u8]) -> Self
+        ensures { λ r. ⌜ Gains self r (hexBytes (now (bytes .entry))) ⌝ }
+    {
+        if bytes.len() == 0 {
+            return self;
         }
-        self
+        self.hex8(bytes[0]).apart(&bytes[1..])
+    }
+
+    // Bytes behind two blanks; nothing where there are none.
+    pub fn bytes(self, bytes: &[u8]) -> Self
+        ensures { λ r. ⌜ Gains self r (field (now (bytes .entry))) ⌝ }
+    {
+        if bytes.len() == 0 {
+            return self;
+        }
+        self.fill(0, 2).hex(bytes)
     }
 
     // The name of a field, two blanks before it and one behind it.
-    pub fn name(self, name: &[u8]) -> Self {
-        self.text(b"  ").text(name).put(b' ')
+    pub fn name(self, name: &[u8]) -> Self
+        ensures { λ r. ⌜ Gains self r (named (now (name .entry))) ⌝ }
+    {
+        self.fill(0, 2).text(name).put(b' ')
     }
 
     // A field that is a number.
-    pub fn number(self, name: &[u8], x: u32, width: usize) -> Self {
+    pub fn number(self, name: &[u8], x: u32, width: usize) -> Self
+        ensures { λ r. ⌜ GainsNumber self r (named (now (name .entry))) x width ⌝ }
+    {
         self.name(name).decimal(x as u64, width)
     }
 
+    // A line feed, and the line is written.
     pub fn end(self) {
-        self.put(b'\n').send();
+        let line = self.put(b'\n');
+        let text = line.text;
+        let n = line.length;
+        write(&text[..n]);
     }
 }
