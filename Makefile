@@ -2,9 +2,10 @@
 # make test       the gate: every proof from nothing, then the tests beside them
 # make examples   plays W6 from each language that has an example, held to examples/w6.txt
 # make install    header, static and shared library and pkg-config file to PREFIX=.. (DESTDIR=.. in front, to stage)
-# make bench      throughput of the proved library against the second program
+# make bench      throughput of the proved library against the second program and against C that checks nothing
+# make memory     the comparisons with lent memory in guarded blocks, under AddressSanitizer and under valgrind
 # make soak N=..  N calls of the bus in random sessions, compared; SEED=.. for other ones
-.PHONY: run test examples install bench soak clean
+.PHONY: run test examples install bench memory soak clean
 
 RT = rt
 PREFIX = /usr/local
@@ -42,6 +43,9 @@ install: $(archive) $(shared)
 bench: $(archive)
 	cd tests/second && cargo build --release --offline --quiet
 	tests/second/target/release/bench
+
+memory: $(archive)
+	tests/memory.sh
 
 soak: $(archive)
 	cd tests/second && cargo build --release --offline --quiet
