@@ -12,7 +12,7 @@ use borrow.Author.Tests.{leb-true}
 use Rattle.operation.specs.Rules.{oneOf, statuses, behaviours}
 use Rattle.operation.proofs.Tests.{both}
 use Rattle.plain_bus.specs.Held.{busOff}
-use Rattle.slots.specs.Slots.{freeSlot}
+use Rattle.slots.specs.Slots.{freeSlot, contentOf, legalContent}
 use Rattle.slots.specs.declared.Slot.{Slot}
 use Rattle.bus_state.specs.Memory.{bytesPerQueue, nodeState}
 use Rattle.bus_state.specs.Valid.{nonZero, validEntry, validSlot, validSlots, validNode, validNodes}
@@ -33,6 +33,41 @@ three (a ∷ b ∷ d ∷ []) e = go (leb 1 a) (leb 1 b) (leb 1 d)
     go true false z = refl
     go false y z = refl
 three (a ∷ b ∷ d ∷ f ∷ l) e = absurd (omega arith)
+
+-- a slot that fails one of the tests of its owner and its acceptance, and one that passes them
+module _ (j low now : ℕ) (s : Slot) where
+  pub slot-of-another : eqb (s .owner) j ≡ false → validSlot j low now s ≡ false
+  unfolding validSlot
+  slot-of-another e = rw e (go (legalContent (contentOf s)))
+    where
+      go : (x : Bool) → (x && false && leb low (s .accepted) && leb (s .accepted) now) ≡ false
+      go true = refl
+      go false = refl
+
+  pub slot-out-of-order : leb low (s .accepted) ≡ false → validSlot j low now s ≡ false
+  unfolding validSlot
+  slot-out-of-order e = rw e (go (legalContent (contentOf s) && eqb (s .owner) j))
+    where
+      go : (x : Bool) → (x && false && leb (s .accepted) now) ≡ false
+      go true = refl
+      go false = refl
+
+  pub slot-of-the-future : leb (s .accepted) now ≡ false → validSlot j low now s ≡ false
+  unfolding validSlot
+  slot-of-the-future e = rw e (go (legalContent (contentOf s) && eqb (s .owner) j && leb low (s .accepted)))
+    where
+      go : (x : Bool) → (x && false) ≡ false
+      go true = refl
+      go false = refl
+
+  pub slot-by-content : eqb (s .owner) j ≡ true → leb low (s .accepted) ≡ true → leb (s .accepted) now ≡ true
+      → validSlot j low now s ≡ legalContent (contentOf s)
+  unfolding validSlot
+  slot-by-content e f g = rw (e, f, g) (go (legalContent (contentOf s)))
+    where
+      go : (x : Bool) → (x && true && true && true) ≡ x
+      go true = refl
+      go false = refl
 
 -- one slot, and those after it
 pub slots-step : (p end owner low now : ℕ) (a : List Slot) → p < end

@@ -44,22 +44,42 @@ fn are_non_zero(rates: [u32; 3]) -> bool
     (1 <= rates[0]) & (1 <= rates[1]) & (1 <= rates[2])
 }
 
+// The tests leave at the first that fails: joined by and, they took half as long again.
 fn entry_is_valid(d: NodeState) -> bool
     ensures { λ r. ⌜ r ≡ validEntry d ⌝ }
 {
+    if !operation::status_is_legal(d.status) {
+        return false;
+    }
+    if !is_behaviour(d.behaviour) {
+        return false;
+    }
     let rates = d.rates;
-    operation::status_is_legal(d.status)
-        & is_behaviour(d.behaviour)
-        & are_non_zero(rates)
-        & (d.fill <= QUEUE_CAPACITY)
-        & (d.pending <= SLOTS_PER_NODE)
-        & ((d.status != operation::BUS_OFF) | (d.pending == 0))
+    if !are_non_zero(rates) {
+        return false;
+    }
+    if QUEUE_CAPACITY < d.fill {
+        return false;
+    }
+    if SLOTS_PER_NODE < d.pending {
+        return false;
+    }
+    (d.status != operation::BUS_OFF) | (d.pending == 0)
 }
 
 fn slot_is_valid(s: Slot, owner: u8, low: u32, now: u32) -> bool
     ensures { λ r. ⌜ r ≡ validSlot owner low now s ⌝ }
 {
-    slots::is_legal(s) & (s.owner == owner) & (low <= s.accepted) & (s.accepted <= now)
+    if s.owner != owner {
+        return false;
+    }
+    if s.accepted < low {
+        return false;
+    }
+    if now < s.accepted {
+        return false;
+    }
+    slots::is_legal(s)
 }
 
 // Whether a state with its slots is valid (01: sound).

@@ -1,12 +1,25 @@
--- The tests, joined by and.
-use Rattle.bus_state.specs.Valid.{validSlot}
+-- The first test that fails decides; the content is asked last.
+use Rattle.bus_state.proofs.Tests.{slot-of-another, slot-out-of-order, slot-of-the-future, slot-by-content}
+use borrow.Author.Tests.{eq-eqb, ne-eqb, le-leb, lt-leb}
+use mathlib.Core.Path.{sym, _∙_}
 use borrow.Author.Needs.{needs}
 use Rattle.bus_state.proofs.slot_is_valid.Statement.{statement}
 use Rattle.bus_state.proofs.slot_is_valid.Tie as tie
 
 returns : tie.Need-returns
-unfolding validSlot
-returns c = rw (c .before .before .before .is-legal .ensures)
+returns c = sym (slot-of-another _ _ _ _ (ne-eqb _ _ (c .if1 .taken)))
+
+returns-2 : tie.Need-returns-2
+returns-2 c = sym (slot-out-of-order _ _ _ _ (lt-leb _ _ (c .if2 .taken)))
+
+returns-3 : tie.Need-returns-3
+returns-3 c = sym (slot-of-the-future _ _ _ _ (lt-leb _ _ (c .if3 .taken)))
+
+returns-4 : tie.Need-returns-4
+returns-4 c =
+    c .is-legal .ensures
+    ∙ sym (slot-by-content _ _ _ _ (eq-eqb _ _ (c .before .before .before .before .before .if1 .left))
+    (le-leb _ _ (c .before .before .before .if2 .left)) (le-leb _ _ (c .before .if3 .left)))
 
 pub slot-is-valid-spec : {M : Type 1} → statement M
-slot-is-valid-spec = tie.close (tie.spec (λ c κs. search needs) returns)
+slot-is-valid-spec = tie.close (tie.spec returns returns-2 returns-3 (λ c κs. search needs) returns-4)
