@@ -16,7 +16,7 @@ ghost use Rattle.bus_model.specs.Round.{pendingAt};
 ghost use Rattle.bus_model.specs.Calls.{arbitrateIn, rounded};
 ghost use Rattle.outcome.specs.Outcome.{endedBy, ended};
 ghost use Rattle.arbitration.specs.Injections.{injectionOf, injectionFrom, hasLegalCode, isWrong};
-ghost use Rattle.arbitration.specs.Winner.{heldAt, before, better, bestIn};
+ghost use Rattle.arbitration.specs.Winner.{heldAt, noRank, sooner, winnerOf, bestIn};
 ghost use Rattle.arbitration.specs.Owed.{Writable, Frames, PendingAt, isOff, discards, discarded, own, toldCount, stayCount, flagAt, newsTo, noticeOf, newsLength, owedLength, roomFrom};
 ghost use Rattle.arbitration.specs.After.{entryAfter, stateAfter, queuesAfter, source, blockWithout, payloadWithout};
 ghost use Rattle.arbitration.specs.Round.{carriedOut};
@@ -102,51 +102,41 @@ fn rank(s: Slot) -> u32
     slots::id_of(s)
 }
 
-// Lower rank first, then lower node number, then earlier accepted.
-fn goes_before(
-    rank: u32,
+// The first of the frames seen so far. rank is NO_RANK, above every rank, where there is none yet.
+struct Best {
+    rank: u64,
     owner: usize,
     position: usize,
-    than_rank: u32,
-    than_owner: usize,
-    than_position: usize,
-) -> bool
-    ensures { λ r. ⌜ r ≡ before rank owner position «than_rank» «than_owner» «than_position» ⌝ }
-{
-    (rank < than_rank)
-        | ((rank == than_rank)
-            & ((owner < than_owner) | ((owner == than_owner) & (position < than_position))))
 }
 
-// The first of the best so far and one more frame.
-fn better(best: Winner, rank: u32, owner: usize, position: usize) -> Winner
-    ensures { λ r. ⌜ r ≡ better best rank owner position ⌝ }
+const NO_RANK: u64 = 4294967296;
+
+// The first of the best so far and one more frame. The frames come by node and position, so that an equal rank stays behind.
+fn sooner(best: Best, rank: u32, owner: usize, position: usize) -> Best
+    ensures { λ r. ⌜ (r ≡ sooner best rank owner position) × (rank < noRank) ⌝ }
 {
-    match best {
-        Winner::Nobody => Winner::First {
-            rank,
+    let new = rank as u64;
+    if new < best.rank {
+        return Best {
+            rank: new,
             owner,
             position,
-        },
-        Winner::First {
-            rank: than_rank,
-            owner: than_owner,
-            position: than_position,
-        } => {
-            if goes_before(rank, owner, position, than_rank, than_owner, than_position) {
-                return Winner::First {
-                    rank,
-                    owner,
-                    position,
-                };
-            }
-            Winner::First {
-                rank: than_rank,
-                owner: than_owner,
-                position: than_position,
-            }
-        }
+        };
     }
+    best
+}
+
+fn winner_of(best: Best) -> Winner
+    ensures { λ r. ⌜ r ≡ winnerOf best ⌝ }
+{
+    if best.rank < NO_RANK {
+        return Winner::First {
+            rank: best.rank as u32,
+            owner: best.owner,
+            position: best.position,
+        };
+    }
+    Winner::Nobody
 }
 
 // The first of all pending frames: node by node, and each node's from the first on.
@@ -156,19 +146,23 @@ fn best_in(s: State, a: [Slot; 32]) -> Winner
 {
     let count = s.count as usize;
     let nodes = s.nodes;
-    let mut best = Winner::Nobody;
+    let mut best = Best {
+        rank: NO_RANK,
+        owner: 0,
+        position: 0,
+    };
     let mut j = 0;
     while j < count {
         let d = nodes[j];
         let pending = d.pending as usize;
         let mut q = 0;
         while q < pending {
-            best = better(best, rank(a[4 * j + q]), j, q);
+            best = sooner(best, rank(a[4 * j + q]), j, q);
             q += 1;
         }
         j += 1;
     }
-    best
+    winner_of(best)
 }
 
 // ---- the removal of the winner
