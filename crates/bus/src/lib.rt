@@ -16,11 +16,9 @@ use outcome::Change;
 use outcome::Outcome;
 use slots::Slot;
 
-pub const SLOTS: usize = 32;
+const PAYLOAD_BYTES: usize = 65536;
 
-pub const PAYLOAD_BYTES: usize = 65536;
-
-pub const QUEUE_BYTES: usize = 32768;
+const QUEUE_BYTES: usize = 32768;
 
 // The outcome of a start, with the state and all slots after it.
 pub struct Started {

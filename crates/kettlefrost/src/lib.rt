@@ -13,7 +13,6 @@ ghost use Rattle.arbitration.specs.Injections.{injectionFrom};
 ghost use Rattle.bus.specs.Left.{left, leaves};
 ghost use Rattle.kettlefrost.specs.Flat.{flatRow, flat, named};
 ghost use Rattle.kettlefrost.specs.Calls.{noOperation, readAnswer, dataAnswer, lengthWritten, answerNamed, writeAnswer, bufferAfterWrite};
-use bus::SLOTS;
 use bus_state::State;
 use decoder::Cursor;
 use decoder::Front;
@@ -322,6 +321,8 @@ pub extern "C" fn kf_write(
         length: length_written(w),
     }
 }
+
+const SLOTS: usize = 32;
 
 // The calls of the bus: each loads the lent slots, calls the bus with the slots by value, and puts back the slots that changed.
 
