@@ -1,5 +1,5 @@
 #!/bin/sh
-# What the program `decode` writes where there is nothing to decode, and that it decodes the sample as stored.
+# What the program `decode` writes where there is nothing to decode, and that it decodes the sample as stored, and a short stream.
 set -eu
 cd "$(dirname "$0")/.."
 decode=target/bin/decode
@@ -26,6 +26,15 @@ says() {
         exit 1
     }
 }
+
+# What the sample does not show: a number shorter than its column, and fault 1.
+printf '\100\0\0\0\15\0\0\0\1\5\0\0\0\21\0\0\0\31\0\0\0\17\0\0\0\0\0\0\10\0\1\2\3\4\5\6\7\10\1\2\3' >"$work/short"
+cat >"$work/short-out" <<'END'
+     0  Configuration     kind 1 CAN_BAUDRATE               baud rate 5
+    13  CAN FD Transmit   ID      00F  Ide 0  Brs 0  Esi 0  DL  8  01 02 03 04 05 06 07 08
+    38  fault 1           fewer than 8 bytes remain    01 02 03
+END
+check 'a short stream' "$work/short-out" "$work/short"
 
 : >"$work/none"
 check 'the sample' crates/decode/stdout samples/mixed.bin
