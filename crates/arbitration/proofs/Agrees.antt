@@ -29,7 +29,7 @@ use Rattle.arbitration.specs.declared.Injection.the-variants.{NoError, I
 use Rattle.arbitration.specs.Injections.{injectionOf, hasLegalCode}
 use Rattle.arbitration.specs.Winner.{heldAt}
 use Rattle.arbitration.specs.Owed.{PendingAt, isOff, discards, discarded, newsTo, noticesBut, owedTo, owedLength, roomFrom}
-use Rattle.arbitration.proofs.Sound.{count-few, node-sound, sound-frames}
+use Rattle.arbitration.proofs.Attached.{count-few, node-at, node-frames}
 use Rattle.arbitration.proofs.Lengths.{owed-length-is}
 
 -- ---- the notices
@@ -96,7 +96,7 @@ module _ (s : State) (a : List Slot) (payload queues : List ℕ) (e : Injection)
   size = lengthOf (heldAt a (4 * owner + position))
 
   low : position < 4
-  low = omega (arith, node-sound s a v owner (w .0) .few, w .1)
+  low = omega (arith, node-at s a v owner (w .0) .few, w .1)
 
   own-low : (j : ℕ) → j ≡ owner → position < nodeState s j .pending
   own-low j q = rw q (w .1)
@@ -106,11 +106,11 @@ module _ (s : State) (a : List Slot) (payload queues : List ℕ) (e : Injection)
 
   pub node-fits : (j : ℕ) → j < s .count → Fits m j
   node-fits j h =
-      let n = node-sound s a v j h in
+      let n = node-at s a v j h in
       record { few = n .few; fill = n .fill; short = λ q l. n .frames q l .short }
 
   pub node-tidy : (j : ℕ) → j < s .count → Tidy m j
-  node-tidy j h = let n = node-sound s a v j h in record { fill = n .fill; owned = n .owned }
+  node-tidy j h = let n = node-at s a v j h in record { fill = n .fill; owned = n .owned }
 
   pub node-placed : (j : ℕ) → eqb j owner ≡ true → position < entryAt m j .pending
   node-placed j q = own-low j (eqb-true j owner q)
@@ -120,12 +120,12 @@ module _ (s : State) (a : List Slot) (payload queues : List ℕ) (e : Injection)
       ≡ owedTo e (nodeState s j) j owner position a (dataAtSlot m (4 * owner + position))
   unfolding owed owedTo
   owed-is j h =
-      rw (news-view e m j owner position, notices-view m j owner position low (node-sound s a v j h .few) (own-low j))
+      rw (news-view e m j owner position, notices-view m j owner position low (node-at s a v j h .few) (own-low j))
 
   pub data-whole : length (dataAtSlot m (4 * owner + position)) ≡ dataLength (heldAt a (4 * owner + position))
   data-whole =
       let o = number-few owner (w .0) in
-      let f = node-sound s a v owner (w .0) .frames position (w .1) in
+      let f = node-at s a v owner (w .0) .frames position (w .1) in
       length-part (2_048 * (4 * owner + position)) (dataLength (heldAt a (4 * owner + position))) payload
       (omega (arith, sized .payload, f .short, low))
 
@@ -133,9 +133,9 @@ module _ (s : State) (a : List Slot) (payload queues : List ℕ) (e : Injection)
       → length (owedTo e (nodeState s j) j owner position a (dataAtSlot m (4 * owner + position)))
       ≡ owedLength e (nodeState s j) (eqb j owner) size
   owed-size j h =
-      let n = node-sound s a v j h in
+      let n = node-at s a v j h in
       owed-length-is e (nodeState s j) j owner position a (dataAtSlot m (4 * owner + position)) size
-      (node-sound s a v owner (w .0) .frames position (w .1)) c data-whole refl low (n .few) (own-low j) (sound-frames n)
+      (node-at s a v owner (w .0) .frames position (w .1)) c data-whole refl low (n .few) (own-low j) (node-frames n)
 
   -- in the model's words
   owed-at : (j : ℕ) → j < s .count

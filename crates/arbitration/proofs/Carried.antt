@@ -35,7 +35,7 @@ use Rattle.arbitration.specs.Injections.{injectionOf, hasLegalCode}
 use Rattle.arbitration.specs.Winner.{heldAt}
 use Rattle.arbitration.specs.Owed.{PendingAt, discards, own, stayCount, owedTo, roomFrom}
 use Rattle.arbitration.specs.After.{entryAfter, entriesAfter, stateAfter, queuesAfter, blockWithout, payloadWithout}
-use Rattle.arbitration.proofs.Sound.{node-sound}
+use Rattle.arbitration.proofs.Attached.{node-at}
 use Rattle.arbitration.proofs.Rooms.{room-at}
 use Rattle.arbitration.proofs.Removed.{slotsDown, payloadDown, down-is, payload-down, slots-down}
 use Rattle.arbitration.proofs.Agrees.{number-few, node-fits, node-tidy, node-placed, owed-is, owed-size}
@@ -246,7 +246,7 @@ module _ (s : State) (a : List Slot) (payload queues : List ℕ) (e : Injection)
   unfolding afterRoundIn setRound stateAfter
   after-is =
       let o = number-few s a payload queues e owner position sized v c w owner (w .0) in
-      let few = node-sound s a v owner (w .0) .few in
+      let few = node-at s a v owner (w .0) .few in
       let k = slots-down a (4 * owner) position (nodeState s owner .pending - 1) (omega (arith, sized .slots)) (omega (arith, w .1)) (omega (arith, few, w .1)) in
       let p = payload-down a (nodeState s owner .pending - 1 - position) a payload (4 * owner + position) (λ i l. refl) in
       ap (λ (x : Memory). setRound x (s .round + 1)) (turns (s .count) 0 m (omega arith) start)

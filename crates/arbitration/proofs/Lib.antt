@@ -3,7 +3,7 @@ pub mod Scan
 pub mod Moves
 pub mod Told
 pub mod Lengths
-pub mod Sound
+pub mod Attached
 pub mod Rooms
 pub mod Wrong
 pub mod Settled

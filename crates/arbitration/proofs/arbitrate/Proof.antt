@@ -2,7 +2,7 @@
 use Prim.Native.Nat.{_+_, _*_}
 use Rattle.outcome.proofs.Endings.{unchanged-ends}
 use Rattle.arbitration.proofs.Ends.{full-ended, used-up-ended, carried-ended}
-use Rattle.arbitration.proofs.Sound.{count-few, node-sound, place-small}
+use Rattle.arbitration.proofs.Attached.{count-few, node-at, place-small}
 use Rattle.arbitration.specs.Winner.{heldAt}
 use Rattle.bus_model.specs.Refines.{Sized}
 use Rattle.bus_state.specs.Memory.{held}
@@ -61,7 +61,7 @@ has-room-requires c κs =
     let v = s .pre .0 .0 in
     let w = s .pre .1 .0 in
     let t = place-small (a .s) (a .t2) v (a .owner) (a .position) w in
-    let f = node-sound (a .s) (a .t2) v (a .owner) (w .0) .frames (a .position) (w .1) in
+    let f = node-at (a .s) (a .t2) v (a .owner) (w .0) .frames (a .position) (w .1) in
     let x : c .before .head-length .result + c .data-length .result ≡ lengthOf (heldAt (a .t2) (4 * a .owner + a .position)) = rw (c .before .head-length .ensures .0, c .data-length .ensures, c .before .before .held-in .ensures) in
     (count-few (a .s) (a .t2) v, omega (arith, t .1), rw x (omega (arith, f .short, head-small (heldAt (a .t2) (4 * a .owner + a .position)))))
 
@@ -72,7 +72,7 @@ returns c =
     let v = s .pre .0 .0 in
     let w = s .pre .1 .0 in
     let t = place-small (a .s) (a .t2) v (a .owner) (a .position) w in
-    let f = node-sound (a .s) (a .t2) v (a .owner) (w .0) .frames (a .position) (w .1) in
+    let f = node-at (a .s) (a .t2) v (a .owner) (w .0) .frames (a .position) (w .1) in
     let x : c .before .before .before .before .head-length .result + c .before .before .before .data-length .result ≡ lengthOf (heldAt (a .t2) (4 * a .owner + a .position)) = rw (c .before .before .before .before .head-length .ensures .0, c .before .before .before .data-length .ensures, c .before .before .before .before .before .held-in .ensures) in
     let z : Sized (held (a .s) (a .t2) (now (a .payload)) (now (a .queues))) = record { slots = s .good .1 .0 .1 .0 .1; payload = s .pre .1 .1 .0; queues = s .pre .1 .1 .1; nodes = sym (length-map (a .s .nodes) _) ∙ s .good .0 .1 .1 .1 .1 .0 .1 .0 .1 } in
     let q = rw x at (sym (c .before .before .has-room .ensures) ∙ not-true _ (c .before .if1 .taken)) in
@@ -85,7 +85,7 @@ returns-2 c =
     let v = s .pre .0 .0 in
     let w = s .pre .1 .0 in
     let t = place-small (a .s) (a .t2) v (a .owner) (a .position) w in
-    let f = node-sound (a .s) (a .t2) v (a .owner) (w .0) .frames (a .position) (w .1) in
+    let f = node-at (a .s) (a .t2) v (a .owner) (w .0) .frames (a .position) (w .1) in
     let x : c .before .before .before .before .before .before .head-length .result + c .before .before .before .before .before .data-length .result ≡ lengthOf (heldAt (a .t2) (4 * a .owner + a .position)) = rw (c .before .before .before .before .before .before .head-length .ensures .0, c .before .before .before .before .before .data-length .ensures, c .before .before .before .before .before .before .before .held-in .ensures) in
     let z : Sized (held (a .s) (a .t2) (now (a .payload)) (now (a .queues))) = record { slots = s .good .1 .0 .1 .0 .1; payload = s .pre .1 .1 .0; queues = s .pre .1 .1 .1; nodes = sym (length-map (a .s .nodes) _) ∙ s .good .0 .1 .1 .1 .1 .0 .1 .0 .1 } in
     let q = rw x at (sym (c .before .before .before .before .has-room .ensures) ∙ not-false _ (c .before .before .before .if1 .left)) in
@@ -98,7 +98,7 @@ carry-out-requires c κs =
     let v = s .pre .0 .0 in
     let w = s .pre .1 .0 in
     let t = place-small (a .s) (a .t2) v (a .owner) (a .position) w in
-    let f = node-sound (a .s) (a .t2) v (a .owner) (w .0) .frames (a .position) (w .1) in
+    let f = node-at (a .s) (a .t2) v (a .owner) (w .0) .frames (a .position) (w .1) in
     let x : c .before .before .before .before .before .before .before .head-length .result + c .before .before .before .before .before .before .data-length .result ≡ lengthOf (heldAt (a .t2) (4 * a .owner + a .position)) = rw (c .before .before .before .before .before .before .before .head-length .ensures .0, c .before .before .before .before .before .before .data-length .ensures, c .before .before .before .before .before .before .before .before .held-in .ensures) in
     let q = sym (c .before .before .before .before .before .has-room .ensures) ∙ not-false _ (c .before .before .before .before .if1 .left) in
     ((v, c .before .before .if2 .left, s .pre .0 .1), (w, ((x, q), s .pre .1 .1)))
@@ -110,7 +110,7 @@ returns-3 c =
     let v = s .pre .0 .0 in
     let w = s .pre .1 .0 in
     let t = place-small (a .s) (a .t2) v (a .owner) (a .position) w in
-    let f = node-sound (a .s) (a .t2) v (a .owner) (w .0) .frames (a .position) (w .1) in
+    let f = node-at (a .s) (a .t2) v (a .owner) (w .0) .frames (a .position) (w .1) in
     let x : c .before .before .before .before .before .before .before .before .before .before .before .before .head-length .result + c .before .before .before .before .before .before .before .before .before .before .before .data-length .result ≡ lengthOf (heldAt (a .t2) (4 * a .owner + a .position)) = rw (c .before .before .before .before .before .before .before .before .before .before .before .before .head-length .ensures .0, c .before .before .before .before .before .before .before .before .before .before .before .data-length .ensures, c .before .before .before .before .before .before .before .before .before .before .before .before .before .held-in .ensures) in
     let z : Sized (held (a .s) (a .t2) (now (a .payload)) (now (a .queues))) = record { slots = s .good .1 .0 .1 .0 .1; payload = s .pre .1 .1 .0; queues = s .pre .1 .1 .1; nodes = sym (length-map (a .s .nodes) _) ∙ s .good .0 .1 .1 .1 .1 .0 .1 .0 .1 } in
     let q = rw x at (sym (c .before .before .before .before .before .before .before .before .before .before .has-room .ensures) ∙ not-false _ (c .before .before .before .before .before .before .before .before .before .if1 .left)) in

@@ -2,7 +2,7 @@
 -- best so far does not stand behind the next frame.
 use Prim.Native.Nat.{_+_, _*_, _≤_, _<_, _-_}
 use Rattle.arbitration.proofs.Scan.{sooner-better, sooner-ahead, frames-next, frames-end, nodes-next, nodes-end}
-use Rattle.arbitration.proofs.Sound.{count-few, node-sound}
+use Rattle.arbitration.proofs.Attached.{count-few, node-at}
 use Rattle.arbitration.specs.Winner.{winnerOf, bestOf, bestFrom, bestIn}
 use Rattle.arbitration.specs.declared.Winner.the-variants.{Nobody}
 use borrow.Author.Needs.{needs}
@@ -48,7 +48,7 @@ loop2-holds : tie.Need-loop2-holds Inv-loop2 μ-loop2 Inv-loop μ-loop
 loop2-holds c =
     let s = c .before .before .before .before .before .before in
     let l = c .before .before .before .loop in
-    let n = node-sound (s .args .s) _ (s .pre) (l .j) (omega arith) .few in
+    let n = node-at (s .args .s) _ (s .pre) (l .j) (omega arith) .few in
     (omega arith, n, omega arith, omega arith, l .inv .3, rw (sub-zero _))
 
 mul-rank : tie.Need-mul-rank Inv-loop2 μ-loop2 Inv-loop μ-loop

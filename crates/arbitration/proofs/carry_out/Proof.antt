@@ -2,7 +2,7 @@
 use Prim.Native.Nat.{_+_, _-_, _*_}
 use Rattle.arbitration.proofs.Agrees.{data-whole}
 use Rattle.arbitration.proofs.Ends.{done-ended}
-use Rattle.arbitration.proofs.Sound.{node-sound, sound-frames, place-small}
+use Rattle.arbitration.proofs.Attached.{node-at, node-frames, place-small}
 use Rattle.arbitration.specs.Winner.{heldAt}
 use Rattle.buffers.specs.Parts.{part}
 use Rattle.bus_model.specs.Refines.{Sized}
@@ -87,7 +87,7 @@ add-to c =
     let v = s .pre .0 .0 in
     let w = s .pre .1 .0 in
     let t = place-small (a .s) (a .t2) v (a .owner) (a .position) w in
-    let f = node-sound (a .s) (a .t2) v (a .owner) (w .0) .frames (a .position) (w .1) in
+    let f = node-at (a .s) (a .t2) v (a .owner) (w .0) .frames (a .position) (w .1) in
     let n : c .data-length .result ≡ dataLength (heldAt (a .t2) (4 * a .owner + a .position)) = c .data-length .ensures ∙ ap dataLength (c .before .held-in .ensures) in
     omega (arith, t .0, t .1, t .2, n, f .short)
 
@@ -98,7 +98,7 @@ part-tell-all-end c =
     let v = s .pre .0 .0 in
     let w = s .pre .1 .0 in
     let t = place-small (a .s) (a .t2) v (a .owner) (a .position) w in
-    let f = node-sound (a .s) (a .t2) v (a .owner) (w .0) .frames (a .position) (w .1) in
+    let f = node-at (a .s) (a .t2) v (a .owner) (w .0) .frames (a .position) (w .1) in
     let n : c .before .data-length .result ≡ dataLength (heldAt (a .t2) (4 * a .owner + a .position)) = c .before .data-length .ensures ∙ ap dataLength (c .before .before .held-in .ensures) in
     omega (arith, t .0, t .1, t .2, n, f .short, s .pre .1 .1 .1 .0)
 
@@ -110,7 +110,7 @@ tell-all-requires c κs =
     let v = s .pre .0 .0 in
     let w = s .pre .1 .0 in
     let t = place-small (a .s) (a .t2) v (a .owner) (a .position) w in
-    let f = node-sound (a .s) (a .t2) v (a .owner) (w .0) .frames (a .position) (w .1) in
+    let f = node-at (a .s) (a .t2) v (a .owner) (w .0) .frames (a .position) (w .1) in
     let n : c .before .before .before .data-length .result ≡ dataLength (heldAt (a .t2) (4 * a .owner + a .position)) = c .before .before .before .data-length .ensures ∙ ap dataLength (c .before .before .before .before .held-in .ensures) in
     let z : Sized (held (a .s) (a .t2) (now (a .payload)) (now (a .queues))) = record { slots = s .good .1 .0 .1 .0 .1; payload = s .pre .1 .1 .1 .0; queues = s .pre .1 .1 .1 .1; nodes = sym (length-map (a .s .nodes) _) ∙ s .good .0 .1 .1 .1 .1 .0 .1 .0 .1 } in
     let k : 2_048 * (4 * a .owner + a .position) + c .before .before .before .data-length .result - 2_048 * (4 * a .owner + a .position) ≡ dataLength (heldAt (a .t2) (4 * a .owner + a .position)) = add-sub-cancel-left _ _ ∙ n in
@@ -141,8 +141,8 @@ move-data-requires c κs =
     let v = s .pre .0 .0 in
     let w = s .pre .1 .0 in
     let t = place-small (a .s) (a .t2) v (a .owner) (a .position) w in
-    let n = node-sound (a .s) (a .t2) v (a .owner) (w .0) in
-    ((omega (arith, t .0, t .1, t .2), omega (arith, t .0, t .1, t .2), s .pre .1 .1 .1 .0), λ p l u. sound-frames n p (omega arith) (omega (arith, t .1)))
+    let n = node-at (a .s) (a .t2) v (a .owner) (w .0) in
+    ((omega (arith, t .0, t .1, t .2), omega (arith, t .0, t .1, t .2), s .pre .1 .1 .1 .0), λ p l u. node-frames n p (omega arith) (omega (arith, t .1)))
 
 block-without-requires : tie.Need-block-without-requires
 block-without-requires c κs =
@@ -169,7 +169,7 @@ sub-t42 c =
     let v = s .pre .0 .0 in
     let w = s .pre .1 .0 in
     let t = place-small (a .s) (a .t2) v (a .owner) (a .position) w in
-    node-sound (a .s) (a .t2) v (a .owner) (w .0) .past (a .position) (w .1)
+    node-at (a .s) (a .t2) v (a .owner) (w .0) .past (a .position) (w .1)
 
 returns : tie.Need-returns
 unfolding part
@@ -179,7 +179,7 @@ returns c =
     let v = s .pre .0 .0 in
     let w = s .pre .1 .0 in
     let t = place-small (a .s) (a .t2) v (a .owner) (a .position) w in
-    let f = node-sound (a .s) (a .t2) v (a .owner) (w .0) .frames (a .position) (w .1) in
+    let f = node-at (a .s) (a .t2) v (a .owner) (w .0) .frames (a .position) (w .1) in
     let n : c .before .before .before .before .before .before .before .before .before .before .before .before .before .before .before .before .data-length .result ≡ dataLength (heldAt (a .t2) (4 * a .owner + a .position)) = c .before .before .before .before .before .before .before .before .before .before .before .before .before .before .before .before .data-length .ensures ∙ ap dataLength (c .before .before .before .before .before .before .before .before .before .before .before .before .before .before .before .before .before .held-in .ensures) in
     let z : Sized (held (a .s) (a .t2) (now (a .payload)) (now (a .queues))) = record { slots = s .good .1 .0 .1 .0 .1; payload = s .pre .1 .1 .1 .0; queues = s .pre .1 .1 .1 .1; nodes = sym (length-map (a .s .nodes) _) ∙ s .good .0 .1 .1 .1 .1 .0 .1 .0 .1 } in
     let x = s .pre .1 .1 .0 .0 in

@@ -2,7 +2,7 @@
 use Prim.Native.Nat.{_≤_, _-_}
 use Rattle.arbitration.proofs.Lengths.{owed-short}
 use Rattle.arbitration.proofs.Rooms.{room-bad, room-good, room-end}
-use Rattle.arbitration.proofs.Sound.{own-pending}
+use Rattle.arbitration.proofs.Attached.{own-pending}
 use Rattle.arbitration.specs.Owed.{roomFrom}
 use Rattle.bus_state.specs.Memory.{nodeState}
 use borrow.Author.Needs.{needs}

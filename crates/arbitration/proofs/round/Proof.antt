@@ -2,7 +2,7 @@
 use Rattle.outcome.proofs.Endings.{unchanged-ends}
 use Rattle.arbitration.proofs.Ends.{wrong-ended, idle-ended, won-ended}
 use Rattle.arbitration.proofs.Places.{first-wins}
-use Rattle.arbitration.proofs.Sound.{count-few}
+use Rattle.arbitration.proofs.Attached.{count-few}
 use Rattle.arbitration.proofs.Wrong.{right-code}
 use Rattle.bus_state.specs.Memory.{held}
 use Rattle.outcome.specs.declared.Outcome.the-variants.{BadInjection, Idle}

@@ -5,7 +5,7 @@ use Rattle.arbitration.proofs.Bytes.{over-over, over-none, in-two}
 use Rattle.arbitration.proofs.Lengths.{discarded-few, owed-length-is}
 use Rattle.arbitration.proofs.Rooms.{room-at}
 use Rattle.arbitration.proofs.Settled.{entries-next, entries-end, queues-next, queues-end}
-use Rattle.arbitration.proofs.Sound.{count-few, node-sound, sound-frames, own-pending, place-small}
+use Rattle.arbitration.proofs.Attached.{count-few, node-at, node-frames, own-pending, place-small}
 use Rattle.arbitration.proofs.Told.{notices-next, notices-end}
 use Rattle.arbitration.specs.After.{entriesAfter, stateAfter, queuesAfter}
 use Rattle.arbitration.specs.Owed.{isOff, discarded, newsTo, noticeOf, noticesBut, owedTo}
@@ -90,11 +90,11 @@ tell-requires c κs =
     let w = s .pre .1 .0 in
     let g = s .pre .1 .1 .0 in
     let r = s .pre .1 .1 .1 in
-    let u = node-sound (a .s) (a .t6) v (a .owner) (w .0) in
+    let u = node-at (a .s) (a .t6) v (a .owner) (w .0) in
     let f = u .frames (a .position) (w .1) in
-    let n = node-sound (a .s) (a .t6) v (l .j) (omega arith) in
+    let n = node-at (a .s) (a .t6) v (l .j) (omega arith) in
     let d = nodeState (a .s) (l .j) in
-    let k = owed-length-is (a .e) d (l .j) (a .owner) (a .position) (a .t6) (now (a .bytes)) (a .size) f (s .pre .0 .2) (g .0) (g .1) (omega (arith, u .few, w .1)) (n .few) (λ q. rw q (w .1)) (sound-frames n) in
+    let k = owed-length-is (a .e) d (l .j) (a .owner) (a .position) (a .t6) (now (a .bytes)) (a .size) f (s .pre .0 .2) (g .0) (g .1) (omega (arith, u .few, w .1)) (n .few) (λ q. rw q (w .1)) (node-frames n) in
     let room = room-at (a .e) (a .s .nodes) (a .owner) (a .size) (a .s .count) (r .0) (l .j) (omega arith) in
     let slot = 4 * a .owner + a .position in
     let news = newsTo (a .e) (l .j) (a .owner) (isOff d) (heldAt (a .t6) slot) (now (a .bytes)) in
@@ -116,7 +116,7 @@ add-end c =
     let s = c .before .before .before .before .before .before .before .before .before .before .before .before .before .before in
     let a = s .args in
     let l = c .before .before .before .before .before .before .before .loop in
-    let n = node-sound (a .s) (a .t6) (s .pre .0 .0) (l .j) (omega arith) in
+    let n = node-at (a .s) (a .t6) (s .pre .0 .0) (l .j) (omega arith) in
     omega (arith, c .discarded .ensures, discarded-few (nodeState (a .s) (l .j)), n .few)
 
 loop2-holds : tie.Need-loop2-holds Inv-loop2 μ-loop2 Inv-loop μ-loop
@@ -129,11 +129,11 @@ loop2-holds c =
     let w = s .pre .1 .0 in
     let g = s .pre .1 .1 .0 in
     let r = s .pre .1 .1 .1 in
-    let u = node-sound (a .s) (a .t6) v (a .owner) (w .0) in
+    let u = node-at (a .s) (a .t6) v (a .owner) (w .0) in
     let f = u .frames (a .position) (w .1) in
-    let n = node-sound (a .s) (a .t6) v (l .j) (omega arith) in
+    let n = node-at (a .s) (a .t6) v (l .j) (omega arith) in
     let d = nodeState (a .s) (l .j) in
-    let k = owed-length-is (a .e) d (l .j) (a .owner) (a .position) (a .t6) (now (a .bytes)) (a .size) f (s .pre .0 .2) (g .0) (g .1) (omega (arith, u .few, w .1)) (n .few) (λ q. rw q (w .1)) (sound-frames n) in
+    let k = owed-length-is (a .e) d (l .j) (a .owner) (a .position) (a .t6) (now (a .bytes)) (a .size) f (s .pre .0 .2) (g .0) (g .1) (omega (arith, u .few, w .1)) (n .few) (λ q. rw q (w .1)) (node-frames n) in
     let room = room-at (a .e) (a .s .nodes) (a .owner) (a .size) (a .s .count) (r .0) (l .j) (omega arith) in
     let slot = 4 * a .owner + a .position in
     let news = newsTo (a .e) (l .j) (a .owner) (isOff d) (heldAt (a .t6) slot) (now (a .bytes)) in
@@ -156,12 +156,12 @@ put-notice-requires c κs =
     let a = s .args in
     let l = c .before .before .before .before .before .before .before .before .before .before .before .loop in
     let m = c .before .before .before .loop2 in
-    let n = node-sound (a .s) (a .t6) (s .pre .0 .0) (l .j) (omega arith) in
+    let n = node-at (a .s) (a .t6) (s .pre .0 .0) (l .j) (omega arith) in
     let slot = 4 * a .owner + a .position in
     let few = discarded-few (nodeState (a .s) (l .j)) in
     let end = 4 * l .j + c .before .before .before .before .discarded .result in
     let x = notices-next (a .t6) slot (m .p) end (omega arith) in
-    (sound-frames n (m .p) (m .inv .0) (omega (arith, c .before .before .before .before .discarded .ensures, few)), omega (arith, m .inv .4, ap length x, length-append (noticeOf (eqb (m .p) slot) (heldAt (a .t6) (m .p))) (noticesBut (a .t6) slot (suc (m .p)) (end - suc (m .p)))))
+    (node-frames n (m .p) (m .inv .0) (omega (arith, c .before .before .before .before .discarded .ensures, few)), omega (arith, m .inv .4, ap length x, length-append (noticeOf (eqb (m .p) slot) (heldAt (a .t6) (m .p))) (noticesBut (a .t6) slot (suc (m .p)) (end - suc (m .p)))))
 
 add-p : tie.Need-add-p Inv-loop2 μ-loop2 Inv-loop μ-loop
 add-p c = search needs
@@ -194,11 +194,11 @@ entry-after-requires c κs =
     let w = s .pre .1 .0 in
     let g = s .pre .1 .1 .0 in
     let r = s .pre .1 .1 .1 in
-    let u = node-sound (a .s) (a .t6) v (a .owner) (w .0) in
+    let u = node-at (a .s) (a .t6) v (a .owner) (w .0) in
     let f = u .frames (a .position) (w .1) in
-    let n = node-sound (a .s) (a .t6) v (l .j) (omega arith) in
+    let n = node-at (a .s) (a .t6) v (l .j) (omega arith) in
     let d = nodeState (a .s) (l .j) in
-    let k = owed-length-is (a .e) d (l .j) (a .owner) (a .position) (a .t6) (now (a .bytes)) (a .size) f (s .pre .0 .2) (g .0) (g .1) (omega (arith, u .few, w .1)) (n .few) (λ q. rw q (w .1)) (sound-frames n) in
+    let k = owed-length-is (a .e) d (l .j) (a .owner) (a .position) (a .t6) (now (a .bytes)) (a .size) f (s .pre .0 .2) (g .0) (g .1) (omega (arith, u .few, w .1)) (n .few) (λ q. rw q (w .1)) (node-frames n) in
     let room = room-at (a .e) (a .s .nodes) (a .owner) (a .size) (a .s .count) (r .0) (l .j) (omega arith) in
     (own-pending (a .s) (l .j) (a .owner) (omega (arith, w .1)), omega (arith, g .1, f .short, head-small (heldAt (a .t6) (4 * a .owner + a .position))), room)
 
@@ -224,11 +224,11 @@ loop-again c =
     let w = s .pre .1 .0 in
     let g = s .pre .1 .1 .0 in
     let r = s .pre .1 .1 .1 in
-    let u = node-sound (a .s) (a .t6) v (a .owner) (w .0) in
+    let u = node-at (a .s) (a .t6) v (a .owner) (w .0) in
     let f = u .frames (a .position) (w .1) in
-    let n = node-sound (a .s) (a .t6) v (l .j) (omega arith) in
+    let n = node-at (a .s) (a .t6) v (l .j) (omega arith) in
     let d = nodeState (a .s) (l .j) in
-    let k = owed-length-is (a .e) d (l .j) (a .owner) (a .position) (a .t6) (now (a .bytes)) (a .size) f (s .pre .0 .2) (g .0) (g .1) (omega (arith, u .few, w .1)) (n .few) (λ q. rw q (w .1)) (sound-frames n) in
+    let k = owed-length-is (a .e) d (l .j) (a .owner) (a .position) (a .t6) (now (a .bytes)) (a .size) f (s .pre .0 .2) (g .0) (g .1) (omega (arith, u .few, w .1)) (n .few) (λ q. rw q (w .1)) (node-frames n) in
     let room = room-at (a .e) (a .s .nodes) (a .owner) (a .size) (a .s .count) (r .0) (l .j) (omega arith) in
     let slot = 4 * a .owner + a .position in
     let news = newsTo (a .e) (l .j) (a .owner) (isOff d) (heldAt (a .t6) slot) (now (a .bytes)) in

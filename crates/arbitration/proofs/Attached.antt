@@ -5,7 +5,7 @@ use mathlib.Core.Bool.{Bool, true, false, cond, _&&_}
 use mathlib.Core.List.{List, []}
 use Prim.Native.Nat.{ℕ, zero, suc, _+_, _-_, _*_, _≤_, _<_}
 use native.Mathlib.Omega.{arith}
-use native.Mathlib.Nat.{add-zero, zero-add}
+use native.Mathlib.Nat.{add-zero}
 use lib.Dec.{leb, eqb}
 use lib.ListN.{getD}
 use borrow.Author.Tests.{leb-true, eqb-true}
@@ -17,10 +17,10 @@ use Rattle.slots.specs.declared.Slot.{Slot}
 use Rattle.slots.specs.declared.Content.{Content}
 use Rattle.slots.specs.declared.Content.the-variants.{Free, Transmit}
 use Rattle.bus_state.specs.Memory.{nodeState, held}
-use Rattle.bus_state.specs.Valid.{validSlot, validSlots, validNodes, validState}
+use Rattle.bus_state.specs.Valid.{validSlot, validSlots, validState}
 use Rattle.bus_state.specs.declared.State.{State}
 use Rattle.bus_model.proofs.Lawful.{max-id, fd-short}
-use Rattle.bus_model.proofs.Validity.{slot-is, node-is, nodes-valid-at}
+use Rattle.bus_model.proofs.Validity.{slot-is, valid-count, valid-node-at}
 use Rattle.arbitration.specs.Winner.{heldAt}
 use Rattle.arbitration.specs.Owed.{Writable, Frames, PendingAt, own}
 
@@ -82,7 +82,7 @@ slots-at j now a (suc n) p low e (suc i) h =
     let r = both (validSlot j low now (getD a p freeSlot)) _ e in
     rw q at (slots-at j now a n (suc p) (getD a p freeSlot .accepted) (r .1) i (omega arith))
 
-pub record SoundNode (s : State) (a : List Slot) (j : ℕ) : Type 0 where
+pub record AttachedNode (s : State) (a : List Slot) (j : ℕ) : Type 0 where
   pub few : nodeState s j .pending ≤ 4
   pub fill : nodeState s j .fill ≤ 4_096
   pub frames : (q : ℕ) → q < nodeState s j .pending → Writable (heldAt a (4 * j + q))
@@ -91,16 +91,11 @@ pub record SoundNode (s : State) (a : List Slot) (j : ℕ) : Type 0 where
 
 module _ (s : State) (a : List Slot) (v : validState s a ≡ true) where
   pub count-few : s .count ≤ 8
-  unfolding validState
-  count-few =
-      let p = both (leb 2 (s .count) && leb (s .count) 8) (validNodes (s .count) 0 s a) v in
-      leb-true (s .count) 8 (both (leb 2 (s .count)) (leb (s .count) 8) (p .0) .1)
+  count-few = valid-count (held s a [] []) v .1
 
-  pub node-sound : (j : ℕ) → j < s .count → SoundNode s a j
-  unfolding validState
-  node-sound j h =
-      let p = both (leb 2 (s .count) && leb (s .count) 8) (validNodes (s .count) 0 s a) v in
-      let n = node-is (held s a [] []) j (rw zero-add at (nodes-valid-at (s .count) 0 s a (p .1) j h)) in
+  pub node-at : (j : ℕ) → j < s .count → AttachedNode s a j
+  node-at j h =
+      let n = valid-node-at (held s a [] []) v j h in
       let f = slots-at j (s .round) a (nodeState s j .pending) (4 * j) 0 (n .slots) in
       record {
         few = n .entry .few;
@@ -113,11 +108,11 @@ module _ (s : State) (a : List Slot) (v : validState s a ≡ true) where
   -- the numbers of a pending frame are small
   pub place-small : (owner position : ℕ) → PendingAt s owner position
       → (owner < 8) × (position < nodeState s owner .pending) × (nodeState s owner .pending ≤ 4)
-  place-small owner position w = (omega (arith, count-few, w .0), w .1, node-sound owner (w .0) .few)
+  place-small owner position w = (omega (arith, count-few, w .0), w .1, node-at owner (w .0) .few)
 
 -- its slots from the first to the last in use
-pub sound-frames : {s : State} {a : List Slot} {j : ℕ} → SoundNode s a j → Frames a (4 * j) (4 * j + nodeState s j .pending)
-sound-frames {s} {a} {j} n p l u =
+pub node-frames : {s : State} {a : List Slot} {j : ℕ} → AttachedNode s a j → Frames a (4 * j) (4 * j + nodeState s j .pending)
+node-frames {s} {a} {j} n p l u =
     let q : 4 * j + (p - 4 * j) ≡ p = omega arith in
     rw q at (n .frames (p - 4 * j) (omega arith))
 
