@@ -1,6 +1,7 @@
 #!/bin/sh
 # An installed copy: installs to a temporary folder, builds the C example and a C++ program from that copy alone, with
-# the flags that pkg-config gives, and holds what the example prints to examples/w6.txt.
+# the flags that pkg-config gives, runs the examples for Rust and Python over its libraries, and holds what each example prints
+# to examples/w6.txt.
 set -eu
 cd "$(dirname "$0")/../.."
 root=$PWD
@@ -74,6 +75,11 @@ check 'a C++ program is built' g++ -std=c++11 -Wall -Wextra -pedantic -Werror he
 check 'it runs' ./cpp
 
 unset LD_LIBRARY_PATH
+check 'the example for Rust prints W6 over the static library' prints_w6 env KETTLEFROST_LIB="$work/prefix/lib" \
+    cargo run --example w6 --manifest-path "$root/bindings/rust/Cargo.toml" --target-dir rust --release --offline --quiet
+check 'the example for Python prints W6 over the shared library' prints_w6 env PYTHONPATH="$root/bindings/python" \
+    KETTLEFROST_LIBRARY="$work/prefix/lib/libkettlefrost.so" python3 -B "$root/examples/python/w6.py"
+
 mv prefix/lib/libkettlefrost.so away
 check 'a static program is built' "$cc" -static w6.c $package -o static
 check 'it prints W6 without the shared library' prints_w6 ./static
