@@ -10,6 +10,7 @@ fn main() {
     let object = PathBuf::from(env::var_os("OUT_DIR").expect("set by cargo")).join("floor.o");
     let mut compiler = Command::new("cc");
     compiler.args(["-std=c11", "-O3", "-Wall", "-Wextra", "-c", "-o"]).arg(&object).arg(&source);
+    compiler.arg("-I").arg(package.join("../../include"));
     let status = compiler.status().expect("cc is installed, as it links what rustc compiles");
     assert!(status.success(), "{} is not compiled", source.display());
     println!("cargo:rustc-link-arg-bin=bench={}", object.display());

@@ -1,47 +1,10 @@
 // The floor of the benchmark: the work of the calls, on the same state and lent memory, and no check at all. That the state is valid,
 // that numbers are in range, that memory has its size and queues have room is taken for granted; bytes are on a little-endian machine.
 
-#include <stddef.h>
-#include <stdint.h>
+#include <kettlefrost.h>
 #include <string.h>
 
-enum { SLOTS_PER_NODE = 4, SLOT_BYTES = 2048, QUEUE_BYTES = 4096 };
-enum { BUS_OFF = 3, DISCARD_AND_NOTIFY = 2 };
-enum {
-    FORMAT_ERROR = 0x01,
-    CAN_TRANSMIT = 0x10,
-    CAN_FD_TRANSMIT = 0x11,
-    CAN_XL_TRANSMIT = 0x12,
-    CONFIRM = 0x20,
-    ARBITRATION_LOST = 0x30,
-    BUS_ERROR = 0x31,
-    CONFIGURATION = 0x40,
-    STATUS = 0x41,
-    WAKEUP = 0x42,
-};
-
-struct slot {
-    uint32_t accepted, id, af;
-    uint16_t length;
-    uint8_t kind, owner, first, second, third, fourth;
-};
-
-struct node_state {
-    uint32_t rates[3];
-    uint16_t fill;
-    uint8_t status, behaviour, pending;
-};
-
-struct state {
-    uint32_t count, round;
-    struct node_state nodes[8];
-};
-
-struct operation {
-    uint32_t code, id, word;
-    uint16_t length;
-    uint8_t first, second, third, fourth;
-};
+enum { SLOT_BYTES = KF_PAYLOAD_BYTES / KF_SLOTS };
 
 static uint32_t get32(const uint8_t *from) {
     uint32_t value;
@@ -60,21 +23,21 @@ static void put32(uint8_t *to, uint32_t value) { memcpy(to, &value, sizeof value
 static void put16(uint8_t *to, uint16_t value) { memcpy(to, &value, sizeof value); }
 
 // Writes all of an operation but its data, and gives the length of that.
-static inline size_t put_header(uint8_t *to, const struct operation *op) {
+static inline size_t put_header(uint8_t *to, const kf_operation *op) {
     size_t header;
     switch (op->code) {
-    case FORMAT_ERROR:
+    case KF_FORMAT_ERROR:
         put16(to + 8, op->length);
         header = 10;
         break;
-    case CAN_TRANSMIT:
+    case KF_CAN_TRANSMIT:
         put32(to + 8, op->id);
         to[12] = op->first;
         to[13] = op->second;
         put16(to + 14, op->length);
         header = 16;
         break;
-    case CAN_FD_TRANSMIT:
+    case KF_CAN_FD_TRANSMIT:
         put32(to + 8, op->id);
         to[12] = op->first;
         to[13] = op->second;
@@ -82,7 +45,7 @@ static inline size_t put_header(uint8_t *to, const struct operation *op) {
         put16(to + 15, op->length);
         header = 17;
         break;
-    case CAN_XL_TRANSMIT:
+    case KF_CAN_XL_TRANSMIT:
         put32(to + 8, op->id);
         to[12] = op->first;
         to[13] = op->second;
@@ -92,19 +55,19 @@ static inline size_t put_header(uint8_t *to, const struct operation *op) {
         put16(to + 20, op->length);
         header = 22;
         break;
-    case CONFIRM:
-    case ARBITRATION_LOST:
+    case KF_CONFIRM:
+    case KF_ARBITRATION_LOST:
         put32(to + 8, op->id);
         header = 12;
         break;
-    case BUS_ERROR:
+    case KF_BUS_ERROR:
         put32(to + 8, op->id);
         to[12] = op->first;
         to[13] = op->second;
         to[14] = op->third;
         header = 15;
         break;
-    case CONFIGURATION:
+    case KF_CONFIGURATION:
         to[8] = op->first;
         if (op->first == 4) {
             to[9] = (uint8_t)op->word;
@@ -114,7 +77,7 @@ static inline size_t put_header(uint8_t *to, const struct operation *op) {
             header = 13;
         }
         break;
-    case STATUS:
+    case KF_STATUS:
         to[8] = op->first;
         header = 9;
         break;
@@ -127,7 +90,7 @@ static inline size_t put_header(uint8_t *to, const struct operation *op) {
 }
 
 // `length` is 0 in a kind without data.
-size_t floor_write(const struct operation *op, const uint8_t *data, uint8_t *to) {
+size_t floor_write(const kf_operation *op, const uint8_t *data, uint8_t *to) {
     size_t header = put_header(to, op);
     memcpy(to + header, data, op->length);
     return header + op->length;
@@ -139,29 +102,29 @@ uint64_t floor_decode(const uint8_t *at, size_t length) {
     uint64_t sum = 0;
     while (at < end) {
         switch (get32(at)) {
-        case FORMAT_ERROR:
+        case KF_FORMAT_ERROR:
             sum += get16(at + 8);
             break;
-        case CAN_TRANSMIT:
+        case KF_CAN_TRANSMIT:
             sum += (uint64_t)get32(at + 8) + at[12] + at[13] + get16(at + 14);
             break;
-        case CAN_FD_TRANSMIT:
+        case KF_CAN_FD_TRANSMIT:
             sum += (uint64_t)get32(at + 8) + at[12] + at[13] + at[14] + get16(at + 15);
             break;
-        case CAN_XL_TRANSMIT:
+        case KF_CAN_XL_TRANSMIT:
             sum += (uint64_t)get32(at + 8) + at[12] + at[13] + at[14] + at[15] + get32(at + 16) + get16(at + 20);
             break;
-        case CONFIRM:
-        case ARBITRATION_LOST:
+        case KF_CONFIRM:
+        case KF_ARBITRATION_LOST:
             sum += get32(at + 8);
             break;
-        case BUS_ERROR:
+        case KF_BUS_ERROR:
             sum += (uint64_t)get32(at + 8) + at[12] + at[13] + at[14];
             break;
-        case CONFIGURATION:
+        case KF_CONFIGURATION:
             sum += (uint64_t)at[8] + (at[8] == 4 ? at[9] : get32(at + 9));
             break;
-        case STATUS:
+        case KF_STATUS:
             sum += at[8];
             break;
         default:
@@ -173,9 +136,9 @@ uint64_t floor_decode(const uint8_t *at, size_t length) {
 }
 
 // Takes a buffer that is one Transmit.
-void floor_submit(struct state *state, struct slot *slots, uint8_t *payload, uint32_t node, const uint8_t *buffer) {
-    size_t place = node * SLOTS_PER_NODE + state->nodes[node].pending++;
-    struct slot slot = {
+void floor_submit(kf_state *state, kf_slot *slots, uint8_t *payload, uint32_t node, const uint8_t *buffer) {
+    size_t place = node * KF_SLOTS_PER_NODE + state->nodes[node].pending++;
+    kf_slot slot = {
         .accepted = state->round,
         .id = get32(buffer + 8),
         .kind = buffer[0],
@@ -185,10 +148,10 @@ void floor_submit(struct state *state, struct slot *slots, uint8_t *payload, uin
     };
     size_t header;
     switch (slot.kind) {
-    case CAN_TRANSMIT:
+    case KF_CAN_TRANSMIT:
         header = 16;
         break;
-    case CAN_FD_TRANSMIT:
+    case KF_CAN_FD_TRANSMIT:
         slot.third = buffer[14];
         header = 17;
         break;
@@ -204,11 +167,11 @@ void floor_submit(struct state *state, struct slot *slots, uint8_t *payload, uin
 }
 
 // Lower ID, then lower node, then earlier: as one number, with the slot in its low half. UINT64_MAX where nothing is pending.
-static uint64_t first_pending(const struct state *state, const struct slot *slots) {
+static uint64_t first_pending(const kf_state *state, const kf_slot *slots) {
     uint64_t first = UINT64_MAX;
     for (size_t node = 0; node < state->count; node++) {
         for (size_t frame = 0; frame < state->nodes[node].pending; frame++) {
-            size_t place = node * SLOTS_PER_NODE + frame;
+            size_t place = node * KF_SLOTS_PER_NODE + frame;
             uint64_t rank = (uint64_t)slots[place].id << 32 | place;
             first = rank < first ? rank : first;
         }
@@ -216,7 +179,7 @@ static uint64_t first_pending(const struct state *state, const struct slot *slot
     return first;
 }
 
-static void put_closing(struct node_state *node, uint8_t *queue, uint32_t code, uint32_t id) {
+static void put_closing(kf_node_state *node, uint8_t *queue, uint32_t code, uint32_t id) {
     uint8_t *to = queue + node->fill;
     put32(to, code);
     put32(to + 4, 12);
@@ -224,20 +187,20 @@ static void put_closing(struct node_state *node, uint8_t *queue, uint32_t code, 
     node->fill += 12;
 }
 
-static void deliver(struct state *state, const struct slot *slots, const uint8_t *payload, uint8_t *queues, size_t winner) {
-    const struct slot *slot = &slots[winner];
-    struct operation op = {
+static void deliver(kf_state *state, const kf_slot *slots, const uint8_t *payload, uint8_t *queues, size_t winner) {
+    const kf_slot *slot = &slots[winner];
+    kf_operation op = {
         slot->kind, slot->id, slot->af, slot->length, slot->first, slot->second, slot->third, slot->fourth,
     };
     uint8_t bytes[22];
     size_t header = put_header(bytes, &op);
     for (size_t number = 0; number < state->count; number++) {
-        struct node_state *node = &state->nodes[number];
-        uint8_t *queue = queues + number * QUEUE_BYTES;
-        if (node->status == BUS_OFF)
+        kf_node_state *node = &state->nodes[number];
+        uint8_t *queue = queues + number * KF_QUEUE_CAPACITY;
+        if (node->status == KF_BUS_OFF)
             continue;
-        if (number == winner / SLOTS_PER_NODE) {
-            put_closing(node, queue, CONFIRM, slot->id);
+        if (number == winner / KF_SLOTS_PER_NODE) {
+            put_closing(node, queue, KF_CONFIRM, slot->id);
         } else {
             memcpy(queue + node->fill, bytes, header);
             memcpy(queue + node->fill + header, payload + winner * SLOT_BYTES, slot->length);
@@ -247,28 +210,28 @@ static void deliver(struct state *state, const struct slot *slots, const uint8_t
 }
 
 // The sender's later frames move down.
-static void remove_frame(struct state *state, struct slot *slots, uint8_t *payload, size_t place) {
-    size_t sender = place / SLOTS_PER_NODE;
-    size_t last = sender * SLOTS_PER_NODE + --state->nodes[sender].pending;
+static void remove_frame(kf_state *state, kf_slot *slots, uint8_t *payload, size_t place) {
+    size_t sender = place / KF_SLOTS_PER_NODE;
+    size_t last = sender * KF_SLOTS_PER_NODE + --state->nodes[sender].pending;
     for (; place < last; place++) {
         slots[place] = slots[place + 1];
         memcpy(payload + place * SLOT_BYTES, payload + (place + 1) * SLOT_BYTES, slots[place].length);
     }
 }
 
-static void discard_losers(struct state *state, const struct slot *slots, uint8_t *queues) {
+static void discard_losers(kf_state *state, const kf_slot *slots, uint8_t *queues) {
     for (size_t number = 0; number < state->count; number++) {
-        struct node_state *node = &state->nodes[number];
-        if (node->behaviour != DISCARD_AND_NOTIFY)
+        kf_node_state *node = &state->nodes[number];
+        if (node->behaviour != KF_DISCARD_AND_NOTIFY)
             continue;
         for (size_t frame = 0; frame < node->pending; frame++)
-            put_closing(node, queues + number * QUEUE_BYTES, ARBITRATION_LOST, slots[number * SLOTS_PER_NODE + frame].id);
+            put_closing(node, queues + number * KF_QUEUE_CAPACITY, KF_ARBITRATION_LOST, slots[number * KF_SLOTS_PER_NODE + frame].id);
         node->pending = 0;
     }
 }
 
 // A round without an injected error. Gives the sender, 255 where nothing is pending.
-uint8_t floor_round(struct state *state, struct slot *slots, uint8_t *payload, uint8_t *queues) {
+uint8_t floor_round(kf_state *state, kf_slot *slots, uint8_t *payload, uint8_t *queues) {
     uint64_t first = first_pending(state, slots);
     if (first == UINT64_MAX)
         return 255;
@@ -277,12 +240,12 @@ uint8_t floor_round(struct state *state, struct slot *slots, uint8_t *payload, u
     remove_frame(state, slots, payload, winner);
     discard_losers(state, slots, queues);
     state->round++;
-    return (uint8_t)(winner / SLOTS_PER_NODE);
+    return (uint8_t)(winner / KF_SLOTS_PER_NODE);
 }
 
-size_t floor_collect(struct state *state, const uint8_t *queues, uint32_t node, uint8_t *buffer) {
+size_t floor_collect(kf_state *state, const uint8_t *queues, uint32_t node, uint8_t *buffer) {
     size_t length = state->nodes[node].fill;
-    memcpy(buffer, queues + node * QUEUE_BYTES, length);
+    memcpy(buffer, queues + node * KF_QUEUE_CAPACITY, length);
     state->nodes[node].fill = 0;
     return length;
 }
