@@ -8,11 +8,14 @@ BEGIN {
         " kf_answer=outcome::Answer kf_operation=kettlefrost::FlatOperation kf_reading=kettlefrost::ReadAnswer" \
         " kf_part=kettlefrost::PartAnswer kf_written=kettlefrost::WriteAnswer kf_register=open_frames::Register" \
         " kf_register_answer=open_frames::RegisterAnswer"
-    # The public constants of these crates, and those with another name in the header.
-    public = " operation bus bus_state open_frames "
-    renamed["operation::MAX_EXTENDED_ID"] = "MAX_ID"
-    renamed["arbitration::LAST_ROUND"] = "MAX_ROUND"
-    renamed["submission::LONGEST_BUFFER"] = "MAX_SUBMIT"
+    # The public constants of these crates; and others, by their names in the header.
+    public = " operation bus_state open_frames "
+    named["kettlefrost::SLOTS"] = "SLOTS"
+    named["bus::PAYLOAD_BYTES"] = "PAYLOAD_BYTES"
+    named["bus::QUEUE_BYTES"] = "QUEUE_BYTES"
+    named["operation::MAX_EXTENDED_ID"] = "MAX_ID"
+    named["arbitration::LAST_ROUND"] = "MAX_ROUND"
+    named["submission::LONGEST_BUFFER"] = "MAX_SUBMIT"
 }
 
 FNR == 1 {
@@ -37,9 +40,9 @@ struct != "" && /^    pub / {
     value = $NF
     sub(/;/, "", value)
     full = crate "::" name
-    if (full in renamed || ($1 == "pub" && index(public, " " crate " "))) {
-        found[full in renamed ? full : crate] = 1
-        constants = constants "CONSTANT(KF_" (full in renamed ? renamed[full] : name) ", " value "u);\n"
+    if (full in named || ($1 == "pub" && index(public, " " crate " "))) {
+        found[full in named ? full : crate] = 1
+        constants = constants "CONSTANT(KF_" (full in named ? named[full] : name) ", " value "u);\n"
     }
 }
 
@@ -83,7 +86,7 @@ function hold(header, struct,    n, i, types, name) {
 
 END {
     if (failed) exit 1
-    for (full in renamed) if (!(full in found)) fail("the source has no constant " full)
+    for (full in named) if (!(full in found)) fail("the source has no constant " full)
     n = split(public, crates, " ")
     for (i = 1; i <= n; i++) if (!(crates[i] in found)) fail("the source has no constant in " crates[i])
     print "#include \"hold.h\""
