@@ -44,7 +44,7 @@ fn are_non_zero(rates: [u32; 3]) -> bool
     (1 <= rates[0]) & (1 <= rates[1]) & (1 <= rates[2])
 }
 
-// The tests leave at the first that fails: joined by and, they took half as long again.
+// The tests leave at the first that fails, which is quicker than joining them by and (docs/PERFORMANCE.md).
 fn entry_is_valid(d: NodeState) -> bool
     ensures { λ r. ⌜ r ≡ validEntry d ⌝ }
 {
