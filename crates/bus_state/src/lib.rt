@@ -45,7 +45,7 @@ fn are_non_zero(rates: [u32; 3]) -> bool
 }
 
 // The tests leave at the first that fails, which is quicker than joining them by and (docs/PERFORMANCE.md).
-fn entry_is_valid(d: NodeState) -> bool
+pub fn entry_is_valid(d: NodeState) -> bool
     ensures { λ r. ⌜ r ≡ validEntry d ⌝ }
 {
     if !operation::status_is_legal(d.status) {
@@ -67,7 +67,7 @@ fn entry_is_valid(d: NodeState) -> bool
     (d.status != operation::BUS_OFF) | (d.pending == 0)
 }
 
-fn slot_is_valid(s: Slot, owner: u8, low: u32, now: u32) -> bool
+pub fn slot_is_valid(s: Slot, owner: u8, low: u32, now: u32) -> bool
     ensures { λ r. ⌜ r ≡ validSlot owner low now s ⌝ }
 {
     if s.owner != owner {

@@ -1,0 +1,4 @@
+pub mod Keys
+pub mod Frames
+pub mod Scanned
+pub mod Passes

@@ -1,0 +1,142 @@
+// One pass over the pending frames for all that a call asks of them: whether state and slots are valid, and which frame is first. The
+// lent slots are walked over by the crate above; here are the steps.
+ghost use mathlib.Core.Path.{_≡_};
+ghost use mathlib.Core.Bool.{_&&_};
+ghost use lib.Dec.{leb};
+ghost use Prim.Native.Nat.{_≤_, _<_};
+ghost use Rattle.scan.specs.Winner.{Small};
+ghost use Rattle.scan.specs.declared.Winner.{Winner};
+ghost use Rattle.scan.specs.Scan.{keyOf, lowerOf, stepOf, begun, entryKey, frameCount, attachedCount, firstKey};
+use bus_state::NodeState;
+use bus_state::State;
+use slots::Slot;
+
+// The first of the frames seen so far: what it is compared by, its node, and its position among that node's pending frames.
+pub enum Winner {
+    Nobody,
+    First {
+        rank: u32,
+        owner: usize,
+        position: usize,
+    },
+}
+
+// The pass along a node's frames: the key so far, and the round at which the last frame was accepted.
+pub struct Run {
+    pub key: u64,
+    pub low: u32,
+}
+
+// The key of a state that is not valid. That of a frame is its rank * 32 + its slot + 1, so that the lowest key is the winner's.
+pub const INVALID: u64 = 0;
+
+const NO_FRAME: u64 = 137438953473;
+
+// Of a state: how many nodes are attached, the round, the entries, and the key to begin with.
+
+fn count_is_legal(count: u32) -> bool
+    ensures { λ r. ⌜ r ≡ (leb 2 count && leb count 8) ⌝ }
+{
+    (2 <= count) & (count <= 8)
+}
+
+pub fn attached(s: State) -> usize
+    ensures { λ r. ⌜ (r ≡ attachedCount s) × (r ≤ 8) ⌝ }
+{
+    if count_is_legal(s.count) {
+        return s.count as usize;
+    }
+    0
+}
+
+pub fn round_of(s: State) -> u32
+    ensures { λ r. ⌜ r ≡ s .round ⌝ }
+{
+    s.round
+}
+
+pub fn entries_of(s: State) -> [NodeState; 8]
+    ensures { λ r. ⌜ r ≡ s .nodes ⌝ }
+{
+    s.nodes
+}
+
+pub fn first_key(s: State) -> u64
+    ensures { λ r. ⌜ r ≡ firstKey s ⌝ }
+{
+    if count_is_legal(s.count) {
+        return NO_FRAME;
+    }
+    INVALID
+}
+
+// Of an entry: the key with it, and how many frames to go along.
+
+pub fn entry_key(d: NodeState, key: u64) -> u64
+    ensures { λ r. ⌜ r ≡ entryKey d key ⌝ }
+{
+    if bus_state::entry_is_valid(d) {
+        return key;
+    }
+    INVALID
+}
+
+pub fn frame_count(d: NodeState) -> usize
+    ensures { λ r. ⌜ (r ≡ frameCount d) × (r ≤ 4) ⌝ }
+{
+    if bus_state::entry_is_valid(d) {
+        return d.pending as usize;
+    }
+    0
+}
+
+// Along a node's frames.
+
+pub fn begin(key: u64) -> Run
+    ensures { λ r. ⌜ r ≡ begun key ⌝ }
+{
+    Run { key, low: 0 }
+}
+
+fn with_frame(r: Run, key: u64, accepted: u32) -> Run
+    ensures { λ t. ⌜ t ≡ record { key = lowerOf key (r .key); low = accepted } ⌝ }
+{
+    if key < r.key {
+        return Run { key, low: accepted };
+    }
+    Run { key: r.key, low: accepted }
+}
+
+// One more slot, p of node j.
+pub fn step(r: Run, x: Slot, j: usize, p: usize, now: u32) -> Run
+    requires { ⌜ (j < 8) × (p < 32) ⌝ }
+    ensures { λ t. ⌜ t ≡ stepOf r x j p now ⌝ }
+{
+    if !bus_state::slot_is_valid(x, j as u8, r.low, now) {
+        return Run { key: INVALID, low: x.accepted };
+    }
+    with_frame(r, x.id as u64 * 32 + p as u64 + 1, x.accepted)
+}
+
+pub fn key_of(r: Run) -> u64
+    ensures { λ k. ⌜ k ≡ r .key ⌝ }
+{
+    r.key
+}
+
+// The winner by the key of a valid state.
+pub fn winner_of(key: u64) -> Winner
+    requires { ⌜ 1 ≤ key ⌝ }
+    ensures { λ r. ⌜ ((w : Winner) → Small w → keyOf w ≡ key → r ≡ w) ⌝ }
+{
+    if NO_FRAME <= key {
+        return Winner::Nobody;
+    }
+    let place = (key - 1) % 32;
+    let rank = (key - 1) / 32;
+    Winner::First {
+        rank: rank as u32,
+        owner: (place / 4) as usize,
+        position: (place % 4) as usize,
+    }
+}
