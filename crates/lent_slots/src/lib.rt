@@ -1,8 +1,9 @@
 // The lent slots, one by one and all at once. These are for the bus crate above only: each has a requires that its caller must meet.
 ghost use mathlib.Core.Path.{_≡_};
+ghost use mathlib.Core.List.{[], _∷_};
 ghost use Prim.Native.Nat.{_<_, _+_, _≤_};
 ghost use lib.ListN.{length, getD, set};
-ghost use Rattle.slots.specs.Slots.{freeSlot, setBlock};
+ghost use Rattle.slots.specs.Slots.{freeSlot, blockAt, setBlock};
 use slots::Slot;
 
 pub fn get(slots: &[Slot], i: usize) -> Slot
@@ -17,6 +18,25 @@ pub fn put(slots: &mut [Slot], i: usize, s: Slot)
     ensures { λ _. ⌜ now (slots .exit) ≡ set (now (slots .entry)) i s ⌝ }
 {
     slots[i] = s;
+}
+
+// Four slots as an array.
+fn block(first: Slot, second: Slot, third: Slot, fourth: Slot) -> [Slot; 4]
+    ensures { λ r. ⌜ r ≡ first ∷ second ∷ third ∷ fourth ∷ [] ⌝ }
+{
+    [first, second, third, fourth]
+}
+
+// The four lent slots from a position on.
+pub fn block_at(slots: &[Slot], at: usize) -> [Slot; 4]
+    requires { ⌜ at + 4 ≤ length (now slots) ⌝ }
+    ensures { λ r. ⌜ r ≡ blockAt (now (slots .entry)) at ⌝ }
+{
+    let first = slots[at];
+    let second = slots[at + 1];
+    let third = slots[at + 2];
+    let fourth = slots[at + 3];
+    block(first, second, third, fourth)
 }
 
 // Four slots into the lent ones, from a position on.

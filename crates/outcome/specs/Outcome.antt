@@ -1,10 +1,10 @@
 -- The outcome of a call: which case each reply of the model is, and what is answered in each case (01, "Numbers that calls answer with").
 -- Assumes nothing.
-use Prim.Native.Nat.{ℕ, _+_}
-use mathlib.Core.List.{List, [], _∷_}
+use Prim.Native.Nat.{ℕ}
+use mathlib.Core.List.{List}
 use mathlib.Core.Bool.{cond}
-use lib.ListN.{length, getD}
-use Rattle.slots.specs.Slots.{freeSlot, setBlock}
+use lib.ListN.{length}
+use Rattle.slots.specs.Slots.{blockAt, setBlock}
 use Rattle.slots.specs.declared.Slot.{Slot}
 use Rattle.plain_bus.specs.Refusal.{Refusal, badNodeCount, invalid, notAttached, bufferTooLong, badInjection, fourPending, queueFull, roundsUsedUp, roomTooSmall}
 use Rattle.plain_bus.specs.Calls as calls
@@ -69,10 +69,6 @@ answerOf (Carried sender id errored age) s = answerRow 0 id age 0 sender 0 (cond
 answerOf (Collected n) s = answerRow 0 0 0 n 0 0 0 s
 
 -- ---- what a call leaves among the slots
-
-abbrev pub blockAt : List Slot → ℕ → List Slot
-blockAt l at =
-    getD l at freeSlot ∷ getD l (at + 1) freeSlot ∷ getD l (at + 2) freeSlot ∷ getD l (at + 3) freeSlot ∷ []
 
 abbrev pub unchanged : Outcome → State → List Slot → Change
 unchanged o s slots = record { outcome = o; state = s; at = 0; block = blockAt slots 0 }

@@ -3,7 +3,7 @@
 use Prim.Native.Nat.{ℕ, _+_}
 use mathlib.Core.Bool.{Bool, true, false, cond}
 use lib.Dec.{eqb}
-use mathlib.Core.List.{List}
+use mathlib.Core.List.{List, [], _∷_}
 use lib.ListN.{getD, set}
 use Rattle.operation.specs.Rules.{legal}
 use Rattle.operation.specs.declared.Operation.{Operation}
@@ -60,6 +60,11 @@ slotOf Wakeup owner accepted = freeSlot
 abbrev pub legalContent : Content → Bool
 legalContent Free = false
 legalContent (Transmit op) = legal op
+
+-- the four slots of a list from a position on
+abbrev pub blockAt : List Slot → ℕ → List Slot
+blockAt l at =
+    getD l at freeSlot ∷ getD l (at + 1) freeSlot ∷ getD l (at + 2) freeSlot ∷ getD l (at + 3) freeSlot ∷ []
 
 -- four slots laid over a list from a position on
 unfoldable pub setBlock : List Slot → ℕ → List Slot → List Slot
