@@ -5,9 +5,10 @@ use mathlib.Core.Bool.{Bool, true, false, cond}
 use mathlib.Core.List.{List, []}
 use Prim.Native.Nat.{ℕ, zero, suc, _+_, _*_, _<_}
 use native.Mathlib.Nat.{add-zero}
+use native.Mathlib.Omega.{arith}
 use lib.Dec.{eqb}
 use lib.ListN.{length, set, drop}
-use lib.Seq.{set-getD, paste-zero}
+use lib.Seq.{set-set, set-getD, paste-zero}
 use Rattle.buffers.specs.Parts.{over}
 use Rattle.operation.specs.Format.{headLength, header, encode}
 use Rattle.operation.specs.declared.Operation.{Operation}
@@ -20,12 +21,27 @@ use Rattle.slots.proofs.Blocks.{set-in-block}
 use Rattle.plain_bus.specs.Held.{busOff}
 use Rattle.plain_bus.specs.Submit.{formatError}
 use Rattle.bus_state.specs.Memory.{held, slotsPerNode, bytesPerSlot, bytesPerQueue, noNode, nodeState}
+use Rattle.bus_state.specs.Entries.{withEntry, entryStatus}
 use Rattle.bus_state.specs.declared.State.{State}
+use Rattle.bus_state.specs.declared.NodeState.{NodeState}
 use Rattle.bus_model.specs.Primitives.{setEntry, fillSlot, putFrame, append, clearNode, inTurn}
 use Rattle.bus_model.specs.Submit.{statusOf, statusIn, wakeupAt, wakeAt}
-use Rattle.submission.specs.Counting.{isOff, addFill, addPending, rateSet, behaviourSet, cleared, onlyStatusSet, statusSet, unreached, wokenAt, wokenFrom, answerLength}
+use Rattle.submission.specs.Counting.{isOff, addFill, unreached, wokenAt, wokenFrom, answerLength, cleared, statusSet, entryAfter}
 use Rattle.submission.specs.Carrying.{memoryAfter, queueWith, wakeupLaid, wakeupsLaid}
+use Rattle.submission.specs.declared.Effect.{Effect}
 use Rattle.submission.specs.declared.Effect.the-variants.{Nothing, Transmit, Answer, SetRate, SetBehaviour, SetStatus, Wake}
+use Rattle.submission.proofs.Entries.{entry-there, entry-again}
+use Rattle.submission.proofs.Wakes.{woken-sender}
+
+-- nothing but the sender's entry changes
+abbrev pub quiet : NodeState → Effect → Bool
+quiet d Nothing = true
+quiet d (Transmit op) = isOff d
+quiet d Answer = false
+quiet d (SetRate i rate) = true
+quiet d (SetBehaviour behaviour) = true
+quiet d (SetStatus status) = true
+quiet d Wake = isOff d
 
 -- a Format Error has ten bytes besides those that it answers
 pub answer-length : (bytes : List ℕ) → length (formatError bytes) ≡ answerLength (length bytes)
@@ -41,7 +57,7 @@ module _ (s : State) (k j : ℕ) (l : List Slot) (p q : List ℕ) where
       let d = nodeState s j in
       rw (add-zero (nodeState s j .fill), ← paste-zero q (bytesPerQueue * j + nodeState s j .fill) [], set-getD (s .nodes) j noNode)
 
-  append-wakeup : append (held s l p q) j (encode Wakeup []) ≡ held (addFill s j 8) l p (queueWith s j q (encode Wakeup []))
+  append-wakeup : append (held s l p q) j (encode Wakeup []) ≡ held (addFill s j 8) l p (queueWith (nodeState s j) j q (encode Wakeup []))
   unfolding append setEntry encode header
   append-wakeup = refl
 
@@ -51,7 +67,7 @@ module _ (s : State) (k j : ℕ) (l : List Slot) (p q : List ℕ) where
     where
       go : (t : Bool)
           → append (held s l p q) j (cond t [] (encode Wakeup []))
-          ≡ held (cond t s (addFill s j 8)) l p (cond t q (queueWith s j q (encode Wakeup [])))
+          ≡ held (cond t s (addFill s j 8)) l p (cond t q (queueWith (nodeState s j) j q (encode Wakeup [])))
       go true = append-none
       go false = append-wakeup
 
@@ -62,52 +78,50 @@ woken-memory s k j zero l p q = refl
 woken-memory s k j (suc n) l p q =
     ap (inTurn (wakeAt k) (suc j) n) (wake-one s k j l p q) ∙ woken-memory (wokenAt s k j) k (suc j) n l p (wakeupLaid s k j q)
 
--- ---- each step
+-- ---- each step, from the state with the sender's entry d
 
-module _ (s : State) (k : ℕ) (l : List Slot) (p q bytes : List ℕ) where
-  pub after-nothing : held s l p q ≡ memoryAfter (held s l p q) k Nothing bytes
-  unfolding memoryAfter
-  after-nothing = refl
+module _ (s : State) (k : ℕ) (d : NodeState) (h : k < length (s .nodes)) (p q bytes : List ℕ) (size : ℕ) where
+  module _ (l : List Slot) where
+    -- a step that changes the sender's entry alone
+    pub after-quiet : (e : Effect) → quiet d e ≡ true
+        → held (withEntry s k (entryAfter d e size)) l p q ≡ memoryAfter (held (withEntry s k d) l p q) k e bytes
+    unfolding memoryAfter entryAfter setEntry statusIn statusSet clearNode
+    after-quiet Nothing o = refl
+    after-quiet (Transmit op) o = rw (entry-there s k d h, o)
+    after-quiet Answer o = let z : _≡_ {A = ℕ} 0 1 = cc in absurd (omega arith)
+    after-quiet (SetRate i rate) o = rw (entry-there s k d h, set-set)
+    after-quiet (SetBehaviour behaviour) o = rw (entry-there s k d h, set-set)
+    after-quiet (SetStatus status) o = go (eqb status busOff)
+      where
+        go : (t : Bool)
+            → held (withEntry s k (entryStatus (cond t (cleared d) d) status)) l p q
+            ≡ statusOf (cond t (clearNode (held (withEntry s k d) l p q) k) (held (withEntry s k d) l p q)) k status
+        go true =
+            let x = withEntry s k d in
+            ap (λ (y : State). held y l p q)
+            (sym (entry-again x k (cleared (nodeState x k)) (λ (y : NodeState). entryStatus y status) ∙ entry-again s k d (λ (y : NodeState). entryStatus (cleared y) status)))
+        go false = ap (λ (y : State). held y l p q) (sym (entry-again s k d (λ (y : NodeState). entryStatus y status)))
+    after-quiet Wake o = rw (entry-there s k d h, o)
 
-  pub after-off : (op : Operation) → isOff s k ≡ true → held s l p q ≡ memoryAfter (held s l p q) k (Transmit op) bytes
-  unfolding memoryAfter
-  after-off op o = rw o
+    pub after-answer : length bytes ≡ size
+        → held (withEntry s k (entryAfter d Answer size)) l p (queueWith d k q (formatError bytes))
+        ≡ memoryAfter (held (withEntry s k d) l p q) k Answer bytes
+    unfolding memoryAfter entryAfter append setEntry
+    after-answer z = rw (← z, ← answer-length bytes, entry-there s k d h, set-set)
 
-  pub after-answer : held (addFill s k (answerLength (length bytes))) l p (queueWith s k q (formatError bytes)) ≡ memoryAfter (held s l p q) k Answer bytes
-  unfolding memoryAfter append setEntry
-  after-answer = rw (← answer-length bytes)
+    pub after-wake : isOff d ≡ false
+        → held (withEntry (wokenFrom (withEntry s k d) k 0 (s .count)) k (entryAfter d Wake size)) l p (wakeupsLaid (withEntry s k d) k 0 (s .count) q)
+        ≡ memoryAfter (held (withEntry s k d) l p q) k Wake bytes
+    unfolding memoryAfter entryAfter
+    after-wake o =
+        rw (entry-there s k d h, o, woken-sender (withEntry s k d) k 0 (s .count) d (entry-there s k d h))
+        (sym (woken-memory (withEntry s k d) k 0 (s .count) l p q))
 
-  pub after-rate : (i rate : ℕ) → held (rateSet s k i rate) l p q ≡ memoryAfter (held s l p q) k (SetRate i rate) bytes
-  unfolding memoryAfter setEntry
-  after-rate i rate = refl
-
-  pub after-behaviour : (x : ℕ) → held (behaviourSet s k x) l p q ≡ memoryAfter (held s l p q) k (SetBehaviour x) bytes
-  unfolding memoryAfter setEntry
-  after-behaviour x = refl
-
-  pub after-status : (x : ℕ) → held (statusSet s k x) l p q ≡ memoryAfter (held s l p q) k (SetStatus x) bytes
-  unfolding memoryAfter statusIn statusSet clearNode setEntry
-  after-status x = go (eqb x busOff)
-    where
-      go : (t : Bool) → held (onlyStatusSet (cond t (cleared s k) s) k x) l p q ≡ statusOf (cond t (clearNode (held s l p q) k) (held s l p q)) k x
-      go true = refl
-      go false = refl
-
-  pub after-silent : isOff s k ≡ true → held s l p q ≡ memoryAfter (held s l p q) k Wake bytes
-  unfolding memoryAfter
-  after-silent o = rw o
-
-  pub after-wake : isOff s k ≡ false
-      → held (wokenFrom s k 0 (s .count)) l p (wakeupsLaid s k 0 (s .count) q) ≡ memoryAfter (held s l p q) k Wake bytes
-  unfolding memoryAfter
-  after-wake o = rw o (sym (woken-memory s k 0 (s .count) l p q))
-
--- a Transmit, where the node's four slots are held apart
-pub after-put : (s : State) (k : ℕ) (l b : List Slot) (p q bytes : List ℕ) (op : Operation) {x : List ℕ} → isOff s k ≡ false → length b ≡ 4
-    → nodeState s k .pending < 4 → x ≡ drop (headLength op) bytes
-    → held (addPending s k) (setBlock l (slotsPerNode * k) (set b (nodeState s k .pending) (slotOf op k (s .round))))
-    (over p (bytesPerSlot * (slotsPerNode * k + nodeState s k .pending)) x) q
-    ≡ memoryAfter (held s (setBlock l (slotsPerNode * k) b) p q) k (Transmit op) bytes
-unfolding memoryAfter putFrame fillSlot setEntry
-after-put s k l b p q bytes op o four few e =
-    rw (o, e, set-in-block l (slotsPerNode * k) b (nodeState s k .pending) (slotOf op k (s .round)) four few)
+  -- a Transmit, where the node's four slots are held apart
+  pub after-frame : (l b : List Slot) (op : Operation) {x : List ℕ} → isOff d ≡ false → length b ≡ 4 → d .pending < 4 → x ≡ drop (headLength op) bytes
+      → held (withEntry s k (entryAfter d (Transmit op) size)) (setBlock l (slotsPerNode * k) (set b (d .pending) (slotOf op k (s .round))))
+      (over p (bytesPerSlot * (slotsPerNode * k + d .pending)) x) q
+      ≡ memoryAfter (held (withEntry s k d) (setBlock l (slotsPerNode * k) b) p q) k (Transmit op) bytes
+  unfolding memoryAfter entryAfter putFrame fillSlot setEntry
+  after-frame l b op o four few e =
+      rw (entry-there s k d h, o, e, set-in-block l (slotsPerNode * k) b (d .pending) (slotOf op k (s .round)) four few, set-set)

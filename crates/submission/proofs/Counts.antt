@@ -1,9 +1,9 @@
 -- The model's steps by what the state alone decides: each goes on to the memory after it, or stops, as it is checked.
 -- Assumes nothing.
-use mathlib.Core.Path.{_≡_, refl, ap, _∙_}
-use mathlib.Core.Bool.{Bool, true, false, cond}
+use mathlib.Core.Path.{_≡_, refl, sym, ap, _∙_}
+use mathlib.Core.Bool.{Bool, true, false, cond, not}
 use mathlib.Core.List.{List, [], _∷_}
-use Prim.Native.Nat.{ℕ, zero, suc, _-_}
+use Prim.Native.Nat.{ℕ, zero, suc, _+_, _-_}
 use lib.Dec.{leb, eqb}
 use lib.ListN.{length, set, drop}
 use Rattle.operation.specs.Format.{headLength, header, encode}
@@ -14,16 +14,18 @@ use Rattle.plain_bus.specs.Held.{busOff}
 use Rattle.plain_bus.specs.Refusal.{Refusal, fourPending, queueFull}
 use Rattle.plain_bus.specs.Submit.{formatError, unanswered}
 use Rattle.bus_state.specs.Memory.{Memory, slotsPerNode}
-use Rattle.bus_state.specs.Entries.{entryBehaviour, entryRates}
+use Rattle.bus_state.specs.Entries.{withEntry, entryStatus, entryBehaviour, entryRates, entryPending}
+use Rattle.bus_state.specs.declared.NodeState.{NodeState}
 use Rattle.bus_model.specs.Primitives.{entryAt, offAt, setEntry, putFrame, fillSlot, append, clearNode}
 use Rattle.bus_model.specs.Submit.{Progress, goesOn, stops, roomAt, roomForEach, transmitIn, configureIn, statusOf, statusIn, wakeupAt, wakeupIn, answerIn, itemIn, itemsIn}
 use Rattle.submission.specs.Effects.{operationEffect, faultEffect, effectOf}
-use Rattle.submission.specs.Counting.{addPending, cleared, onlyStatusSet, statusSet, unreached, wakeupLength, wakeupRoom, wokenFrom, checkTransmit, checkAnswer, checkWake, check, stateAfter, andThen, checkItems}
+use Rattle.submission.specs.Counting.{isWakeup, unreached, wakeupLength, wakeupRoom, wokenFrom, cleared, statusSet, entryCheck, entryAfter, check, stateAfter, andThen, checkItems}
 use Rattle.submission.specs.Carrying.{memoryAfter, memoryAfterAll}
 use Rattle.submission.specs.declared.Effect.{Effect}
 use Rattle.submission.specs.declared.Effect.the-variants.{Nothing, Transmit, Answer, SetRate, SetBehaviour, SetStatus, Wake}
 use Rattle.submission.specs.declared.Verdict.{Verdict}
 use Rattle.submission.specs.declared.Verdict.the-variants.{Goes, FourPending, QueueFull}
+use Rattle.submission.proofs.Entries.{same-entry, entry-again}
 use Rattle.submission.proofs.Carries.{answer-length, woken-memory}
 
 -- a verdict with the memory after the step
@@ -35,8 +37,8 @@ gives QueueFull m = stops queueFull
 -- ---- one step
 
 module _ (m : Memory) (k : ℕ) where
-  transmit-counts : (op : Operation) (bytes : List ℕ) → transmitIn m k op bytes ≡ gives (checkTransmit (m .state) k) (memoryAfter m k (Transmit op) bytes)
-  unfolding transmitIn checkTransmit memoryAfter
+  transmit-counts : (op : Operation) (bytes : List ℕ) → transmitIn m k op bytes ≡ gives (check (m .state) k (Transmit op) (length bytes)) (memoryAfter m k (Transmit op) bytes)
+  unfolding transmitIn check isWakeup entryCheck memoryAfter
   transmit-counts op bytes = go (offAt m k) (leb slotsPerNode (entryAt m k .pending)) (putFrame m k op (drop (headLength op) bytes))
     where
       go : (o c : Bool) (x : Memory)
@@ -45,8 +47,8 @@ module _ (m : Memory) (k : ℕ) where
       go false true x = refl
       go false false x = refl
 
-  answer-counts : (bytes : List ℕ) → answerIn m k bytes ≡ gives (checkAnswer (m .state) k (length bytes)) (memoryAfter m k Answer bytes)
-  unfolding answerIn checkAnswer memoryAfter
+  answer-counts : (bytes : List ℕ) → answerIn m k bytes ≡ gives (check (m .state) k Answer (length bytes)) (memoryAfter m k Answer bytes)
+  unfolding answerIn check isWakeup entryCheck memoryAfter
   answer-counts bytes = rw (← answer-length bytes) (go (roomAt m k (formatError bytes)) (append m k (formatError bytes)))
     where
       go : (r : Bool) (x : Memory) → cond r (goesOn x) (stops queueFull) ≡ gives (cond r Goes QueueFull) x
@@ -66,18 +68,18 @@ module _ (m : Memory) (k : ℕ) where
   room-counts j zero = refl
   room-counts j (suc n) = rw (wakeup-length j, room-counts (suc j) n)
 
-  wake-counts : (bytes : List ℕ) → wakeupIn m k ≡ gives (checkWake (m .state) k) (memoryAfter m k Wake bytes)
-  unfolding wakeupIn checkWake memoryAfter
+  wake-counts : (bytes : List ℕ) → wakeupIn m k ≡ gives (check (m .state) k Wake (length bytes)) (memoryAfter m k Wake bytes)
+  unfolding wakeupIn check isWakeup entryCheck memoryAfter
   wake-counts bytes = rw (room-counts 0 (m .state .count)) (go (offAt m k) (wakeupRoom (m .state) k 0 (m .state .count)) _)
     where
       go : (o r : Bool) (x : Memory)
-          → cond o (goesOn m) (cond r (goesOn x) (stops queueFull)) ≡ gives (cond o Goes (cond r Goes QueueFull)) (cond o m x)
+          → cond o (goesOn m) (cond r (goesOn x) (stops queueFull)) ≡ gives (cond (not o) (cond r Goes QueueFull) Goes) (cond o m x)
       go true r x = refl
       go false true x = refl
       go false false x = refl
 
   item-counts : (i : Item) → itemIn m k i ≡ gives (check (m .state) k (effectOf i) (length (bytesOf i))) (memoryAfter m k (effectOf i) (bytesOf i))
-  unfolding itemIn configureIn check operationEffect faultEffect memoryAfter
+  unfolding itemIn configureIn check isWakeup entryCheck operationEffect faultEffect memoryAfter
   item-counts (operation (FormatError n) bytes) = refl
   item-counts (operation (CanTransmit id ide rtr dl) bytes) = transmit-counts (CanTransmit id ide rtr dl) bytes
   item-counts (operation (FdTransmit id ide brs esi dl) bytes) = transmit-counts (FdTransmit id ide brs esi dl) bytes
@@ -106,27 +108,31 @@ module _ (m : Memory) (k : ℕ) where
 
   -- the state after a step is decided by the state before it
   state-counts : (e : Effect) (bytes : List ℕ) → memoryAfter m k e bytes .state ≡ stateAfter (m .state) k e (length bytes)
-  unfolding memoryAfter stateAfter setEntry putFrame fillSlot append statusIn statusSet clearNode
-  state-counts Nothing bytes = refl
+  unfolding memoryAfter stateAfter isWakeup entryAfter setEntry putFrame fillSlot append statusIn statusSet clearNode
+  state-counts Nothing bytes = sym (same-entry (m .state) k)
   state-counts (Transmit op) bytes = go (offAt m k)
     where
-      go : (o : Bool) → cond o m (putFrame m k op (drop (headLength op) bytes)) .state ≡ cond o (m .state) (addPending (m .state) k)
-      go true = refl
+      go : (o : Bool)
+          → cond o m (putFrame m k op (drop (headLength op) bytes)) .state
+          ≡ withEntry (m .state) k (cond o (entryAt m k) (entryPending (entryAt m k) (entryAt m k .pending + 1)))
+      go true = sym (same-entry (m .state) k)
       go false = refl
   state-counts Answer bytes = rw (← answer-length bytes)
   state-counts (SetRate i rate) bytes = refl
   state-counts (SetBehaviour behaviour) bytes = refl
   state-counts (SetStatus status) bytes = go (eqb status busOff)
     where
-      go : (t : Bool) → statusOf (cond t (clearNode m k) m) k status .state ≡ onlyStatusSet (cond t (cleared (m .state) k) (m .state)) k status
-      go true = refl
+      go : (t : Bool)
+          → statusOf (cond t (clearNode m k) m) k status .state
+          ≡ withEntry (m .state) k (entryStatus (cond t (cleared (entryAt m k)) (entryAt m k)) status)
+      go true = entry-again (m .state) k (cleared (entryAt m k)) (λ (d : NodeState). entryStatus d status)
       go false = refl
   state-counts Wake bytes =
       go (offAt m k) _ (ap (λ (x : Memory). x .state) (woken-memory (m .state) k 0 (m .state .count) (m .slots) (m .payload) (m .queues)))
     where
       go : (o : Bool) (x : Memory) → x .state ≡ wokenFrom (m .state) k 0 (m .state .count)
-          → cond o m x .state ≡ cond o (m .state) (wokenFrom (m .state) k 0 (m .state .count))
-      go true x e = refl
+          → cond o m x .state ≡ cond (not o) (wokenFrom (m .state) k 0 (m .state .count)) (withEntry (m .state) k (entryAt m k))
+      go true x e = sym (same-entry (m .state) k)
       go false x e = e
 
 -- ---- all steps

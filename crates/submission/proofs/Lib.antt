@@ -1,3 +1,4 @@
+pub mod Entries
 pub mod Wakes
 pub mod Settings
 pub mod Checks
@@ -6,4 +7,5 @@ pub mod Walks
 pub mod Lays
 pub mod Carries
 pub mod Counts
+pub mod Turns
 pub mod Submits

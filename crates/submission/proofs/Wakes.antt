@@ -1,18 +1,23 @@
 -- Laws of a Wakeup on the state, one node at a time.
 -- Assumes nothing.
 use mathlib.Core.Path.{_≡_, refl, sym, ap, _∙_}
-use mathlib.Core.Bool.{Bool, true, false, cond, _&&_}
+use mathlib.Core.Bool.{Bool, true, false, cond, _&&_, _||_}
 use mathlib.Core.List.{List}
 use Prim.Native.Nat.{ℕ, zero, suc, _-_, _≤_, _<_}
 use native.Mathlib.Omega.{arith}
-use lib.Dec.{leb}
+use lib.Dec.{leb, eqb}
+use lib.ListN.{length, length-set}
 use lib.Seq.{getD-set-other}
-use borrow.Author.Tests.{leb-true, le-leb, lt-leb}
+use borrow.Author.Tests.{leb-true, le-leb, lt-leb, eqb-false}
 use Rattle.operation.proofs.Tests.{both}
+use Rattle.plain_bus.specs.Held.{busOff}
 use Rattle.bus_state.specs.Memory.{bytesPerQueue, noNode, nodeState}
+use Rattle.bus_state.specs.Entries.{withEntry}
 use Rattle.bus_state.specs.declared.State.{State}
+use Rattle.bus_state.specs.declared.NodeState.{NodeState}
 use Rattle.submission.specs.Counting.{addFill, unreached, wakeupLength, fillWoken, wakeupRoom, wokenAt, wokenFrom}
 use Rattle.submission.specs.Carrying.{wakeupLaid, wakeupsLaid}
+use Rattle.submission.proofs.Entries.{same-entry}
 
 -- one node, and those after it
 room-step : (s : State) (k j count : ℕ) → j < count
@@ -87,3 +92,52 @@ unfolding wakeupsLaid
 laid-end s k j count queues h =
     let n : count - j ≡ 0 = omega arith in
     ap (λ (i : ℕ). wakeupsLaid s k j i queues) n
+
+-- ---- what stays: the number of nodes, of entries, and the sender's entry
+
+module _ {A : Type 0} (f : State → A) (k : ℕ) (kept : (s : State) (j : ℕ) → f (wokenAt s k j) ≡ f s) where
+  from-kept : (s : State) (j n : ℕ) → f (wokenFrom s k j n) ≡ f s
+  unfolding wokenFrom
+  from-kept s j zero = refl
+  from-kept s j (suc n) = from-kept (wokenAt s k j) (suc j) n ∙ kept s j
+
+at-count : (k : ℕ) (s : State) (j : ℕ) → wokenAt s k j .count ≡ s .count
+unfolding wokenAt
+at-count k s j = go (unreached (nodeState s j .status) k j)
+  where
+    go : (t : Bool) → cond t s (addFill s j 8) .count ≡ s .count
+    go true = refl
+    go false = refl
+
+at-length : (k : ℕ) (s : State) (j : ℕ) → length (wokenAt s k j .nodes) ≡ length (s .nodes)
+unfolding wokenAt
+at-length k s j = go (unreached (nodeState s j .status) k j)
+  where
+    go : (t : Bool) → length (cond t s (addFill s j 8) .nodes) ≡ length (s .nodes)
+    go true = refl
+    go false = length-set (s .nodes) j _
+
+at-sender : (k : ℕ) (s : State) (j : ℕ) → nodeState (wokenAt s k j) k ≡ nodeState s k
+unfolding wokenAt
+at-sender k s j = go (eqb j k) refl
+  where
+    other : (t : Bool) → (k ≡ j → ⊥) → nodeState (cond t s (addFill s j 8)) k ≡ nodeState s k
+    other true n = refl
+    other false n = getD-set-other (s .nodes) j k _ noNode n
+
+    go : (t : Bool) → eqb j k ≡ t → nodeState (cond (t || eqb (nodeState s j .status) busOff) s (addFill s j 8)) k ≡ nodeState s k
+    go true e = refl
+    go false e = other (eqb (nodeState s j .status) busOff) (λ q. eqb-false j k e (sym q))
+
+module _ (s : State) (k j n : ℕ) where
+  pub woken-count : wokenFrom s k j n .count ≡ s .count
+  woken-count = from-kept (λ (x : State). x .count) k (at-count k) s j n
+
+  pub woken-length : length (wokenFrom s k j n .nodes) ≡ length (s .nodes)
+  woken-length = from-kept (λ (x : State). length (x .nodes)) k (at-length k) s j n
+
+  -- the sender's entry, stored again
+  pub woken-sender : (d : NodeState) → nodeState s k ≡ d → withEntry (wokenFrom s k j n) k d ≡ wokenFrom s k j n
+  woken-sender d e =
+      let q : nodeState (wokenFrom s k j n) k ≡ d = from-kept (λ (x : State). nodeState x k) k (at-sender k) s j n ∙ e in
+      rw (sym q) (same-entry (wokenFrom s k j n) k)

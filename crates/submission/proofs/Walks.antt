@@ -1,65 +1,48 @@
 -- Going over the items of a buffer from a position on: one step, then the rest.
 -- Assumes nothing.
 use mathlib.Core.Path.{_≡_, refl, sym, ap, _∙_}
-use mathlib.Core.Bool.{Bool, true, false, cond}
+use mathlib.Core.Bool.{true, false, cond}
 use mathlib.Core.List.{List, []}
-use Prim.Native.Nat.{ℕ, zero, suc, _-_, _≤_, _<_}
+use Prim.Native.Nat.{ℕ, _-_, _≤_, _<_}
 use native.Mathlib.Omega.{arith}
-use lib.Dec.{eqb}
 use lib.ListN.{length, take, drop, length-drop}
 use lib.Seq.{length-take-le}
 use Rattle.decoder.specs.Stream.{Item, bytesOf, itemsOf}
-use Rattle.plain_bus.specs.Held.{busOff}
 use Rattle.plain_bus.proofs.Whole.{items-nil}
-use Rattle.bus_state.specs.Memory.{Memory, nodeState}
+use Rattle.bus_state.specs.Memory.{Memory}
+use Rattle.bus_state.specs.Entries.{withEntry}
 use Rattle.bus_state.specs.declared.State.{State}
+use Rattle.bus_state.specs.declared.NodeState.{NodeState}
 use Rattle.submission.specs.Effects.{Taken}
-use Rattle.submission.specs.Counting.{isOff, addFill, addPending, cleared, onlyStatusSet, statusSet, unreached, wokenAt, wokenFrom, check, stateAfter, andThen, checkItems}
+use Rattle.submission.specs.Counting.{isWakeup, wakeupRoom, wokenFrom, entryCheck, entryAfter, check, stateAfter, andThen, checkItems}
 use Rattle.submission.specs.Carrying.{memoryAfter, memoryAfterAll}
 use Rattle.submission.specs.declared.Effect.{Effect}
-use Rattle.submission.specs.declared.Effect.the-variants.{Nothing, Transmit, Answer, SetRate, SetBehaviour, SetStatus, Wake}
 use Rattle.submission.specs.declared.Step.{Step}
 use Rattle.submission.specs.declared.Verdict.{Verdict}
 use Rattle.submission.specs.declared.Verdict.the-variants.{Goes, FourPending, QueueFull}
+use Rattle.submission.proofs.Entries.{entry-there, entry-last}
+use Rattle.submission.proofs.Wakes.{woken-sender}
 use Rattle.submission.proofs.Counts.{state-after-step}
 use Rattle.submission.proofs.Takes.{drop-all}
 
--- ---- the number of nodes stays
+-- ---- a step from the state with the sender's entry d, by its kind
 
-woken-count : (s : State) (k j : ℕ) → wokenAt s k j .count ≡ s .count
-unfolding wokenAt
-woken-count s k j = go (unreached (nodeState s j .status) k j)
-  where
-    go : (t : Bool) → cond t s (addFill s j 8) .count ≡ s .count
-    go true = refl
-    go false = refl
+module _ (s : State) (k : ℕ) (d : NodeState) (h : k < length (s .nodes)) (e : Effect) (size : ℕ) where
+  check-wakeup : isWakeup d e ≡ true → check (withEntry s k d) k e size ≡ cond (wakeupRoom (withEntry s k d) k 0 (s .count)) Goes QueueFull
+  unfolding check
+  check-wakeup w = rw (entry-there s k d h, w)
 
-from-count : (s : State) (k j n : ℕ) → wokenFrom s k j n .count ≡ s .count
-unfolding wokenFrom
-from-count s k j zero = refl
-from-count s k j (suc n) = from-count (wokenAt s k j) k (suc j) n ∙ woken-count s k j
+  check-entry : isWakeup d e ≡ false → check (withEntry s k d) k e size ≡ entryCheck d e size
+  unfolding check
+  check-entry w = rw (entry-there s k d h, w)
 
-pub count-kept : (s : State) (k : ℕ) (e : Effect) (size : ℕ) → stateAfter s k e size .count ≡ s .count
-unfolding stateAfter statusSet
-count-kept s k Nothing size = refl
-count-kept s k (Transmit op) size = go (isOff s k)
-  where
-    go : (t : Bool) → cond t s (addPending s k) .count ≡ s .count
-    go true = refl
-    go false = refl
-count-kept s k Answer size = refl
-count-kept s k (SetRate i rate) size = refl
-count-kept s k (SetBehaviour behaviour) size = refl
-count-kept s k (SetStatus status) size = go (eqb status busOff)
-  where
-    go : (t : Bool) → onlyStatusSet (cond t (cleared s k) s) k status .count ≡ s .count
-    go true = refl
-    go false = refl
-count-kept s k Wake size = go (isOff s k)
-  where
-    go : (t : Bool) → cond t s (wokenFrom s k 0 (s .count)) .count ≡ s .count
-    go true = refl
-    go false = from-count s k 0 (s .count)
+  after-wakeup : isWakeup d e ≡ true → stateAfter (withEntry s k d) k e size ≡ withEntry (wokenFrom (withEntry s k d) k 0 (s .count)) k d
+  unfolding stateAfter
+  after-wakeup w = rw (entry-there s k d h, w) (sym (woken-sender (withEntry s k d) k 0 (s .count) d (entry-there s k d h)))
+
+  after-entry : isWakeup d e ≡ false → stateAfter (withEntry s k d) k e size ≡ withEntry s k (entryAfter d e size)
+  unfolding stateAfter
+  after-entry w = rw (entry-there s k d h, w) (entry-last s k d (entryAfter d e size))
 
 -- ---- no item is left at the end
 
@@ -89,13 +72,37 @@ module _ (s : List ℕ) (at : ℕ) (r : Step) (t : Taken s at r) (k : ℕ) where
       let n : length (bytesOf (t .item)) ≡ r .end - at = ap length (t .bytes) ∙ bytes-length s at (r .end) (t .forward) (t .within) in
       ap (λ (is : List Item). checkItems k is x) (t .items) ∙ rw (← t .effect, n)
 
-  pub check-fails : (x : State) (v : Verdict) → check x k (r .effect) (r .end - at) ≡ v → ((w : Verdict) → andThen v w ≡ v)
+  check-fails : (x : State) (v : Verdict) → check x k (r .effect) (r .end - at) ≡ v → ((w : Verdict) → andThen v w ≡ v)
       → checkItems k (itemsOf (drop at s)) x ≡ v
   check-fails x v e f = check-unrolled x ∙ rw e (f _)
 
-  pub check-goes : (x : State) → check x k (r .effect) (r .end - at) ≡ Goes
+  check-goes : (x : State) → check x k (r .effect) (r .end - at) ≡ Goes
       → checkItems k (itemsOf (drop at s)) x ≡ checkItems k (itemsOf (drop (r .end) s)) (stateAfter x k (r .effect) (r .end - at))
   check-goes x e = check-unrolled x ∙ rw e
+
+  -- by the kind of the step, from the state with the sender's entry d
+  module _ (x : State) (d : NodeState) (h : k < length (x .nodes)) where
+    pub wakeup-fails : isWakeup d (r .effect) ≡ true → wakeupRoom (withEntry x k d) k 0 (x .count) ≡ false
+        → checkItems k (itemsOf (drop at s)) (withEntry x k d) ≡ QueueFull
+    wakeup-fails w e = check-fails (withEntry x k d) QueueFull (check-wakeup x k d h (r .effect) (r .end - at) w ∙ rw e) (λ v. refl)
+
+    pub wakeup-goes : isWakeup d (r .effect) ≡ true → wakeupRoom (withEntry x k d) k 0 (x .count) ≡ true
+        → checkItems k (itemsOf (drop at s)) (withEntry x k d)
+        ≡ checkItems k (itemsOf (drop (r .end) s)) (withEntry (wokenFrom (withEntry x k d) k 0 (x .count)) k d)
+    wakeup-goes w e =
+        check-goes (withEntry x k d) (check-wakeup x k d h (r .effect) (r .end - at) w ∙ rw e)
+        ∙ ap (checkItems k (itemsOf (drop (r .end) s))) (after-wakeup x k d h (r .effect) (r .end - at) w)
+
+    pub entry-fails : (v : Verdict) → isWakeup d (r .effect) ≡ false → entryCheck d (r .effect) (r .end - at) ≡ v → ((w : Verdict) → andThen v w ≡ v)
+        → checkItems k (itemsOf (drop at s)) (withEntry x k d) ≡ v
+    entry-fails v w e = check-fails (withEntry x k d) v (check-entry x k d h (r .effect) (r .end - at) w ∙ e)
+
+    pub entry-goes : isWakeup d (r .effect) ≡ false → entryCheck d (r .effect) (r .end - at) ≡ Goes
+        → checkItems k (itemsOf (drop at s)) (withEntry x k d)
+        ≡ checkItems k (itemsOf (drop (r .end) s)) (withEntry x k (entryAfter d (r .effect) (r .end - at)))
+    entry-goes w e =
+        check-goes (withEntry x k d) (check-entry x k d h (r .effect) (r .end - at) w ∙ e)
+        ∙ ap (checkItems k (itemsOf (drop (r .end) s))) (after-entry x k d h (r .effect) (r .end - at) w)
 
   pub check-first : (x : State) → checkItems k (itemsOf (drop at s)) x ≡ Goes → check x k (r .effect) (r .end - at) ≡ Goes
   check-first x e = go (check x k (r .effect) (r .end - at)) _ (sym (check-unrolled x) ∙ e)
@@ -117,9 +124,6 @@ module _ (s : List ℕ) (at : ℕ) (r : Step) (t : Taken s at r) (k : ℕ) where
     step-state =
         let n = bytes-length s at (r .end) (t .forward) (t .within) in
         rw n at (state-after-step m k (r .effect) (take (r .end - at) (drop at s)) e)
-
-    pub step-count : x .state .count ≡ m .state .count
-    step-count = rw step-state (count-kept (m .state) k (r .effect) (r .end - at))
 
     pub step-check : checkItems k (itemsOf (drop at s)) (m .state) ≡ Goes → checkItems k (itemsOf (drop (r .end) s)) (x .state) ≡ Goes
     step-check g = rw step-state (sym (check-goes (m .state) (check-first (m .state) g)) ∙ g)

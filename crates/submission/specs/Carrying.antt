@@ -12,6 +12,7 @@ use Rattle.plain_bus.specs.Submit.{formatError}
 use Rattle.bus_state.specs.Memory.{Memory, bytesPerQueue, nodeState}
 use Rattle.bus_state.specs.Entries.{entryBehaviour, entryRates}
 use Rattle.bus_state.specs.declared.State.{State}
+use Rattle.bus_state.specs.declared.NodeState.{NodeState}
 use Rattle.bus_model.specs.Primitives.{entryAt, offAt, setEntry, putFrame, append, inTurn}
 use Rattle.bus_model.specs.Submit.{statusIn, wakeAt}
 use Rattle.submission.specs.Effects.{effectOf}
@@ -34,13 +35,13 @@ unfoldable pub memoryAfterAll : ℕ → List Item → Memory → Memory
 memoryAfterAll k [] m = m
 memoryAfterAll k (i ∷ is) m = memoryAfterAll k is (memoryAfter m k (effectOf i) (bytesOf i))
 
--- bytes behind those of node j's queue
-abbrev pub queueWith : State → ℕ → List ℕ → List ℕ → List ℕ
-queueWith s j queues bytes = over queues (bytesPerQueue * j + nodeState s j .fill) bytes
+-- bytes behind those of node j's queue, by its entry
+abbrev pub queueWith : NodeState → ℕ → List ℕ → List ℕ → List ℕ
+queueWith d j queues bytes = over queues (bytesPerQueue * j + d .fill) bytes
 
 -- the queues after node j gets a Wakeup of node k, and after n nodes from number j on do
 unfoldable pub wakeupLaid : State → ℕ → ℕ → List ℕ → List ℕ
-wakeupLaid s k j queues = cond (unreached (nodeState s j .status) k j) queues (queueWith s j queues (encode Wakeup []))
+wakeupLaid s k j queues = cond (unreached (nodeState s j .status) k j) queues (queueWith (nodeState s j) j queues (encode Wakeup []))
 
 unfoldable pub wakeupsLaid : State → ℕ → ℕ → ℕ → List ℕ → List ℕ
 wakeupsLaid s k j zero queues = queues

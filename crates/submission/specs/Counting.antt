@@ -3,7 +3,7 @@
 -- Assumes nothing.
 use Prim.Native.Nat.{ℕ, zero, suc, _+_}
 use mathlib.Core.List.{List, [], _∷_}
-use mathlib.Core.Bool.{Bool, true, cond, _&&_, _||_}
+use mathlib.Core.Bool.{Bool, true, false, cond, not, _&&_, _||_}
 use lib.Dec.{leb, eqb}
 use lib.ListN.{length, set}
 use Rattle.decoder.specs.Stream.{Item, bytesOf}
@@ -11,43 +11,18 @@ use Rattle.plain_bus.specs.Held.{busOff}
 use Rattle.bus_state.specs.Memory.{slotsPerNode, bytesPerQueue, nodeState}
 use Rattle.bus_state.specs.Entries.{entryStatus, entryBehaviour, entryRates, entryFill, entryPending, withEntry}
 use Rattle.bus_state.specs.declared.State.{State}
+use Rattle.bus_state.specs.declared.NodeState.{NodeState}
 use Rattle.submission.specs.Effects.{effectOf}
 use Rattle.submission.specs.declared.Effect.{Effect}
 use Rattle.submission.specs.declared.Effect.the-variants.{Nothing, Transmit, Answer, SetRate, SetBehaviour, SetStatus, Wake}
 use Rattle.submission.specs.declared.Verdict.{Verdict}
 use Rattle.submission.specs.declared.Verdict.the-variants.{Goes, FourPending, QueueFull}
 
-abbrev pub isOff : State → ℕ → Bool
-isOff s j = eqb (nodeState s j .status) busOff
-
--- ---- changes of one entry
+-- ---- a Wakeup of node k: to every other node that is not Bus-Off
 
 -- node j has n bytes more in its queue
 abbrev pub addFill : State → ℕ → ℕ → State
 addFill s j n = withEntry s j (entryFill (nodeState s j) (nodeState s j .fill + n))
-
--- node k has one pending frame more
-abbrev pub addPending : State → ℕ → State
-addPending s k = withEntry s k (entryPending (nodeState s k) (nodeState s k .pending + 1))
-
-abbrev pub rateSet : State → ℕ → ℕ → ℕ → State
-rateSet s k i rate = withEntry s k (entryRates (nodeState s k) (set (nodeState s k .rates) i rate))
-
-abbrev pub behaviourSet : State → ℕ → ℕ → State
-behaviourSet s k behaviour = withEntry s k (entryBehaviour (nodeState s k) behaviour)
-
--- node k has no pending frame and no byte in its queue
-abbrev pub cleared : State → ℕ → State
-cleared s k = withEntry s k (entryFill (entryPending (nodeState s k) 0) 0)
-
-abbrev pub onlyStatusSet : State → ℕ → ℕ → State
-onlyStatusSet s k status = withEntry s k (entryStatus (nodeState s k) status)
-
--- Status Bus-Off clears the node
-unfoldable pub statusSet : State → ℕ → ℕ → State
-statusSet s k status = onlyStatusSet (cond (eqb status busOff) (cleared s k) s) k status
-
--- ---- a Wakeup of node k: to every other node that is not Bus-Off
 
 -- it does not go to node j, of this status
 abbrev pub unreached : ℕ → ℕ → ℕ → Bool
@@ -75,44 +50,64 @@ unfoldable pub wokenFrom : State → ℕ → ℕ → ℕ → State
 wokenFrom s k j zero = s
 wokenFrom s k j (suc n) = wokenFrom (wokenAt s k j) k (suc j) n
 
--- all nodes get it; from a Bus-Off node it has no effect
-abbrev pub wokenAll : State → ℕ → State
-wokenAll s k = cond (isOff s k) s (wokenFrom s k 0 (s .count))
+-- ---- a step, by its effect and the number of its bytes: on the sender's entry
 
--- ---- a step, by its effect and the number of its bytes
+abbrev pub isOff : NodeState → Bool
+isOff d = eqb (d .status) busOff
+
+-- a Wakeup goes to the other nodes; from a Bus-Off node it has no effect
+unfoldable pub isWakeup : NodeState → Effect → Bool
+isWakeup d Nothing = false
+isWakeup d (Transmit op) = false
+isWakeup d Answer = false
+isWakeup d (SetRate i rate) = false
+isWakeup d (SetBehaviour behaviour) = false
+isWakeup d (SetStatus status) = false
+isWakeup d Wake = not (isOff d)
 
 -- a Format Error has ten bytes besides those that it answers
 abbrev pub answerLength : ℕ → ℕ
 answerLength size = 10 + size
 
-unfoldable pub checkTransmit : State → ℕ → Verdict
-checkTransmit s k = cond (isOff s k) Goes (cond (leb slotsPerNode (nodeState s k .pending)) FourPending Goes)
+-- whether the entry lets the step be done, or the refusal
+unfoldable pub entryCheck : NodeState → Effect → ℕ → Verdict
+entryCheck d Nothing size = Goes
+entryCheck d (Transmit op) size = cond (isOff d) Goes (cond (leb slotsPerNode (d .pending)) FourPending Goes)
+entryCheck d Answer size = cond (leb (d .fill + answerLength size) bytesPerQueue) Goes QueueFull
+entryCheck d (SetRate i rate) size = Goes
+entryCheck d (SetBehaviour behaviour) size = Goes
+entryCheck d (SetStatus status) size = Goes
+entryCheck d Wake size = Goes
 
-unfoldable pub checkAnswer : State → ℕ → ℕ → Verdict
-checkAnswer s k size = cond (leb (nodeState s k .fill + answerLength size) bytesPerQueue) Goes QueueFull
+-- no pending frame and no byte in the queue
+abbrev pub cleared : NodeState → NodeState
+cleared d = entryFill (entryPending d 0) 0
 
-unfoldable pub checkWake : State → ℕ → Verdict
-checkWake s k = cond (isOff s k) Goes (cond (wakeupRoom s k 0 (s .count)) Goes QueueFull)
+-- Status Bus-Off clears the node
+unfoldable pub statusSet : NodeState → ℕ → NodeState
+statusSet d status = entryStatus (cond (eqb status busOff) (cleared d) d) status
+
+-- the entry after the step
+unfoldable pub entryAfter : NodeState → Effect → ℕ → NodeState
+entryAfter d Nothing size = d
+entryAfter d (Transmit op) size = cond (isOff d) d (entryPending d (d .pending + 1))
+entryAfter d Answer size = entryFill d (d .fill + answerLength size)
+entryAfter d (SetRate i rate) size = entryRates d (set (d .rates) i rate)
+entryAfter d (SetBehaviour behaviour) size = entryBehaviour d behaviour
+entryAfter d (SetStatus status) size = statusSet d status
+entryAfter d Wake size = d
+
+-- ---- and on the state: a Wakeup by all queues, any other step of node k by its entry
 
 -- whether the step can be done, or the refusal
 unfoldable pub check : State → ℕ → Effect → ℕ → Verdict
-check s k Nothing size = Goes
-check s k (Transmit op) size = checkTransmit s k
-check s k Answer size = checkAnswer s k size
-check s k (SetRate i rate) size = Goes
-check s k (SetBehaviour behaviour) size = Goes
-check s k (SetStatus status) size = Goes
-check s k Wake size = checkWake s k
+check s k e size =
+    cond (isWakeup (nodeState s k) e) (cond (wakeupRoom s k 0 (s .count)) Goes QueueFull) (entryCheck (nodeState s k) e size)
 
 -- the state after the step
 unfoldable pub stateAfter : State → ℕ → Effect → ℕ → State
-stateAfter s k Nothing size = s
-stateAfter s k (Transmit op) size = cond (isOff s k) s (addPending s k)
-stateAfter s k Answer size = addFill s k (answerLength size)
-stateAfter s k (SetRate i rate) size = rateSet s k i rate
-stateAfter s k (SetBehaviour behaviour) size = behaviourSet s k behaviour
-stateAfter s k (SetStatus status) size = statusSet s k status
-stateAfter s k Wake size = wokenAll s k
+stateAfter s k e size =
+    cond (isWakeup (nodeState s k) e) (wokenFrom s k 0 (s .count)) (withEntry s k (entryAfter (nodeState s k) e size))
 
 -- ---- all steps of a buffer, one by one: the first that can't be done decides
 

@@ -4,22 +4,24 @@ ghost use mathlib.Core.Path.{_≡_};
 ghost use mathlib.Core.Bool.{true};
 ghost use mathlib.Core.List.{List, []};
 ghost use Prim.Native.Nat.{_+_, _*_, _-_, _≤_, _<_};
-ghost use lib.ListN.{length, take, drop, set};
+ghost use lib.ListN.{length};
 ghost use Rattle.operation.specs.Rules.{legal};
 ghost use Rattle.operation.specs.Format.{encode};
 ghost use Rattle.buffers.specs.Parts.{over};
 ghost use Rattle.decoder.specs.Stream.{itemsOf};
-ghost use Rattle.slots.specs.Slots.{slotOf, setBlock};
+ghost use Rattle.slots.specs.Slots.{setBlock};
 ghost use Rattle.slots.specs.declared.Slot.{Slot};
 ghost use Rattle.plain_bus.specs.Submit.{formatError};
 ghost use Rattle.plain_bus.specs.Calls.{maxSubmit};
 ghost use Rattle.bus_state.specs.Memory.{held, nodeState, slotsPerNode, bytesPerSlot, bytesPerQueue, payloadBytes, queueBytes};
+ghost use Rattle.bus_state.specs.Entries.{withEntry};
 ghost use Rattle.bus_state.specs.Valid.{validState};
 ghost use Rattle.bus_model.specs.Calls.{submitted};
 ghost use Rattle.outcome.specs.Outcome.{endedBy, ended};
-ghost use Rattle.submission.specs.Effects.{configurationEffect, operationEffect, faultEffect, SmallRate, DataFit, NextIs};
-ghost use Rattle.submission.specs.Counting.{isOff, addFill, addPending, rateSet, behaviourSet, statusSet, unreached, wakeupLength, fillWoken, wakeupRoom, wokenAt, wokenFrom, answerLength, checkTransmit, checkAnswer, checkWake, check, stateAfter, checkItems};
-ghost use Rattle.submission.specs.Carrying.{memoryAfter, memoryAfterAll, queueWith, wakeupLaid, wakeupsLaid};
+ghost use Rattle.submission.specs.Effects.{configurationEffect, operationEffect, faultEffect, SmallRate, NextIs};
+ghost use Rattle.submission.specs.Counting.{addFill, unreached, wakeupLength, fillWoken, wakeupRoom, wokenAt, wokenFrom, isWakeup, answerLength, statusSet, entryCheck, entryAfter, checkItems};
+ghost use Rattle.submission.specs.Carrying.{memoryAfterAll, queueWith, wakeupLaid, wakeupsLaid};
+use bus_state::NodeState;
 use bus_state::State;
 use decoder::Cursor;
 use decoder::Reading;
@@ -164,15 +166,7 @@ fn step_at(buffer: &[u8], at: usize) -> Next
     }
 }
 
-// ---- changes of one entry of the state
-
-fn is_off(s: State, j: usize) -> bool
-    requires { ⌜ j < 8 ⌝ }
-    ensures { λ r. ⌜ r ≡ isOff s j ⌝ }
-{
-    let d = bus_state::entry(s, j);
-    d.status == operation::BUS_OFF
-}
+// ---- a Wakeup of node k, on the state
 
 fn add_fill(s: State, j: usize, n: usize) -> State
     requires { ⌜ (j < 8) × (nodeState s j .fill + n ≤ bytesPerQueue) ⌝ }
@@ -182,45 +176,6 @@ fn add_fill(s: State, j: usize, n: usize) -> State
     let fill = d.fill as usize + n;
     bus_state::with_entry(s, j, bus_state::with_fill(d, fill as u16))
 }
-
-fn add_pending(s: State, k: usize) -> State
-    requires { ⌜ (k < 8) × (nodeState s k .pending < slotsPerNode) ⌝ }
-    ensures { λ r. ⌜ r ≡ addPending s k ⌝ }
-{
-    let d = bus_state::entry(s, k);
-    bus_state::with_entry(s, k, bus_state::with_pending(d, d.pending + 1))
-}
-
-fn set_rate(s: State, k: usize, i: usize, rate: u32) -> State
-    requires { ⌜ (k < 8) × (i < 3) ⌝ }
-    ensures { λ r. ⌜ r ≡ rateSet s k i rate ⌝ }
-{
-    let d = bus_state::entry(s, k);
-    bus_state::with_entry(s, k, bus_state::with_rate(d, i, rate))
-}
-
-fn set_behaviour(s: State, k: usize, behaviour: u8) -> State
-    requires { ⌜ k < 8 ⌝ }
-    ensures { λ r. ⌜ r ≡ behaviourSet s k behaviour ⌝ }
-{
-    let d = bus_state::entry(s, k);
-    bus_state::with_entry(s, k, bus_state::with_behaviour(d, behaviour))
-}
-
-// Status Bus-Off removes all the node's pending frames and empties its queue.
-fn set_status(s: State, k: usize, status: u8) -> State
-    requires { ⌜ k < 8 ⌝ }
-    ensures { λ r. ⌜ r ≡ statusSet s k status ⌝ }
-{
-    let d = bus_state::entry(s, k);
-    if status == operation::BUS_OFF {
-        let cleared = bus_state::with_fill(bus_state::with_pending(d, 0), 0);
-        return bus_state::with_entry(s, k, bus_state::with_status(cleared, status));
-    }
-    bus_state::with_entry(s, k, bus_state::with_status(d, status))
-}
-
-// ---- a Wakeup of node k, on the state
 
 // It does not go to node j, of this status.
 fn is_unreached(status: u8, k: usize, j: usize) -> bool
@@ -280,96 +235,95 @@ fn woken(s: State, k: usize) -> State
     now
 }
 
-// ---- a step, on the state
+// ---- a step, on the sender's entry
 
-fn check_transmit(s: State, k: usize) -> Verdict
-    requires { ⌜ k < 8 ⌝ }
-    ensures { λ r. ⌜ r ≡ checkTransmit s k ⌝ }
+// A Wakeup goes to the other nodes; from a Bus-Off node it has no effect.
+fn is_wakeup(d: NodeState, effect: Effect) -> bool
+    ensures { λ r. ⌜ r ≡ isWakeup d effect ⌝ }
 {
-    let d = bus_state::entry(s, k);
-    if d.status == operation::BUS_OFF {
-        return Verdict::Goes;
+    match effect {
+        Effect::Nothing => false,
+        Effect::Transmit(_) => false,
+        Effect::Answer => false,
+        Effect::SetRate(_, _) => false,
+        Effect::SetBehaviour(_) => false,
+        Effect::SetStatus(_) => false,
+        Effect::Wake => d.status != operation::BUS_OFF,
     }
-    if bus_state::SLOTS_PER_NODE <= d.pending {
-        return Verdict::FourPending;
-    }
-    Verdict::Goes
 }
 
-fn check_answer(s: State, k: usize, size: usize) -> Verdict
-    requires { ⌜ (k < 8) × (size ≤ maxSubmit) ⌝ }
-    ensures { λ r. ⌜ r ≡ checkAnswer s k size ⌝ }
-{
-    let d = bus_state::entry(s, k);
-    if d.fill as usize + (ANSWER_HEAD + size) <= QUEUE_CAPACITY {
-        return Verdict::Goes;
-    }
-    Verdict::QueueFull
-}
-
-fn check_wake(s: State, k: usize) -> Verdict
-    requires { ⌜ (k < 8) × (s .count ≤ 8) ⌝ }
-    ensures { λ r. ⌜ r ≡ checkWake s k ⌝ }
-{
-    if is_off(s, k) {
-        return Verdict::Goes;
-    }
-    if wakeup_has_room(s, k) {
-        return Verdict::Goes;
-    }
-    Verdict::QueueFull
-}
-
-// Whether a step of so many bytes can be done.
-fn check_step(s: State, k: usize, effect: Effect, size: usize) -> Verdict
-    requires { ⌜ (k < 8) × (s .count ≤ 8) × (size ≤ maxSubmit) ⌝ }
-    ensures { λ r. ⌜ r ≡ check s k effect size ⌝ }
+// Whether the entry lets a step of so many bytes be done.
+fn entry_check(d: NodeState, effect: Effect, size: usize) -> Verdict
+    requires { ⌜ size ≤ maxSubmit ⌝ }
+    ensures { λ r. ⌜ r ≡ entryCheck d effect size ⌝ }
 {
     match effect {
         Effect::Nothing => Verdict::Goes,
-        Effect::Transmit(_) => check_transmit(s, k),
-        Effect::Answer => check_answer(s, k, size),
+        Effect::Transmit(_) => {
+            if d.status == operation::BUS_OFF {
+                return Verdict::Goes;
+            }
+            if bus_state::SLOTS_PER_NODE <= d.pending {
+                return Verdict::FourPending;
+            }
+            Verdict::Goes
+        }
+        Effect::Answer => {
+            if d.fill as usize + (ANSWER_HEAD + size) <= QUEUE_CAPACITY {
+                return Verdict::Goes;
+            }
+            Verdict::QueueFull
+        }
         Effect::SetRate(_, _) => Verdict::Goes,
         Effect::SetBehaviour(_) => Verdict::Goes,
         Effect::SetStatus(_) => Verdict::Goes,
-        Effect::Wake => check_wake(s, k),
+        Effect::Wake => Verdict::Goes,
     }
 }
 
-// The state after a step that can be done.
-fn state_after(s: State, k: usize, effect: Effect, size: usize) -> State
-    requires { ⌜ (k < 8) × (s .count ≤ 8) × (size ≤ maxSubmit) ⌝ }
-    requires { ⌜ check s k effect size ≡ Verdict.Goes ⌝ }
-    requires { ⌜ SmallRate effect ⌝ }
-    ensures { λ r. ⌜ r ≡ stateAfter s k effect size ⌝ }
+// Status Bus-Off removes all the node's pending frames and empties its queue.
+fn status_set(d: NodeState, status: u8) -> NodeState
+    ensures { λ r. ⌜ r ≡ statusSet d status ⌝ }
+{
+    if status == operation::BUS_OFF {
+        let cleared = bus_state::with_fill(bus_state::with_pending(d, 0), 0);
+        return bus_state::with_status(cleared, status);
+    }
+    bus_state::with_status(d, status)
+}
+
+// The entry after a step that can be done.
+fn entry_after(d: NodeState, effect: Effect, size: usize) -> NodeState
+    requires { ⌜ (size ≤ maxSubmit) × (entryCheck d effect size ≡ Verdict.Goes) × SmallRate effect ⌝ }
+    ensures { λ r. ⌜ r ≡ entryAfter d effect size ⌝ }
 {
     match effect {
-        Effect::Nothing => s,
+        Effect::Nothing => d,
         Effect::Transmit(_) => {
-            if is_off(s, k) {
-                return s;
+            if d.status == operation::BUS_OFF {
+                return d;
             }
-            add_pending(s, k)
+            bus_state::with_pending(d, d.pending + 1)
         }
-        Effect::Answer => add_fill(s, k, ANSWER_HEAD + size),
-        Effect::SetRate(i, rate) => set_rate(s, k, i as usize, rate),
-        Effect::SetBehaviour(behaviour) => set_behaviour(s, k, behaviour),
-        Effect::SetStatus(status) => set_status(s, k, status),
-        Effect::Wake => {
-            if is_off(s, k) {
-                return s;
-            }
-            woken(s, k)
+        Effect::Answer => {
+            let fill = d.fill as usize + (ANSWER_HEAD + size);
+            bus_state::with_fill(d, fill as u16)
         }
+        Effect::SetRate(i, rate) => bus_state::with_rate(d, i as usize, rate),
+        Effect::SetBehaviour(behaviour) => bus_state::with_behaviour(d, behaviour),
+        Effect::SetStatus(status) => status_set(d, status),
+        Effect::Wake => d,
     }
 }
 
-// Whether a buffer is taken: the first step that can't be done decides.
-fn check_buffer(s: State, k: usize, buffer: &[u8]) -> Verdict
+// Whether a buffer is taken, from the state with this entry of its sender: the first step that can't be done decides. The entry is
+// stored before a Wakeup alone, which asks for the whole state.
+fn check_buffer(s: State, k: usize, entry: NodeState, buffer: &[u8]) -> Verdict
     requires { ⌜ (k < 8) × (s .count ≤ 8) × (length (now buffer) ≤ maxSubmit) ⌝ }
-    ensures { λ r. ⌜ r ≡ checkItems k (itemsOf (now (buffer .entry))) s ⌝ }
+    ensures { λ r. ⌜ r ≡ checkItems k (itemsOf (now (buffer .entry))) (withEntry s k entry) ⌝ }
 {
     let mut state = s;
+    let mut d = entry;
     let mut at: usize = 0;
     loop {
         match step_at(buffer, at) {
@@ -379,16 +333,26 @@ fn check_buffer(s: State, k: usize, buffer: &[u8]) -> Verdict
             Next::At(step) => {
                 let effect = step.effect;
                 let size = step.end - at;
-                match check_step(state, k, effect, size) {
-                    Verdict::FourPending => {
-                        return Verdict::FourPending;
-                    }
-                    Verdict::QueueFull => {
+                if is_wakeup(d, effect) {
+                    let current = bus_state::with_entry(state, k, d);
+                    if wakeup_has_room(current, k) {
+                        state = woken(current, k);
+                        at = step.end;
+                    } else {
                         return Verdict::QueueFull;
                     }
-                    Verdict::Goes => {
-                        state = state_after(state, k, effect, size);
-                        at = step.end;
+                } else {
+                    match entry_check(d, effect, size) {
+                        Verdict::FourPending => {
+                            return Verdict::FourPending;
+                        }
+                        Verdict::QueueFull => {
+                            return Verdict::QueueFull;
+                        }
+                        Verdict::Goes => {
+                            d = entry_after(d, effect, size);
+                            at = step.end;
+                        }
                     }
                 }
             }
@@ -414,38 +378,21 @@ fn lay_format_error(queues: &mut [u8], at: usize, bytes: &[u8])
     encoder::write_format_error(bytes.len() as u16, bytes, &mut queues[at..]);
 }
 
-// Puts a Transmit of node k into the slot after its last frame, and its data into that slot's bytes.
-fn put_frame(
-    s: State,
-    k: usize,
-    op: Operation,
-    mut block: [Slot; 4],
-    payload: &mut [u8],
-    bytes: &[u8],
-) -> Carried
-    requires { ⌜ (k < 8) × (nodeState s k .pending < slotsPerNode) ⌝ }
-    requires { ⌜ (length (now payload) ≡ payloadBytes) × (length (now bytes) ≤ bytesPerSlot) ⌝ }
-    ensures after { λ r. ⌜ (r .state ≡ addPending s k) × (r .block ≡ set block (nodeState s k .pending) (slotOf op k (s .round))) ⌝ }
-    ensures laid { λ _. ⌜ now (payload .exit) ≡ over (now (payload .entry)) (bytesPerSlot * (slotsPerNode * k + nodeState s k .pending)) (now (bytes .entry)) ⌝ }
+// Lays the data of node k's next frame into the bytes of the slot after its last.
+fn lay_data(d: NodeState, k: usize, bytes: &[u8], payload: &mut [u8])
+    requires { ⌜ (k < 8) × (d .pending < slotsPerNode) × (length (now payload) ≡ payloadBytes) × (length (now bytes) ≤ bytesPerSlot) ⌝ }
+    ensures { λ _. ⌜ now (payload .exit) ≡ over (now (payload .entry)) (bytesPerSlot * (slotsPerNode * k + d .pending)) (now (bytes .entry)) ⌝ }
 {
-    let d = bus_state::entry(s, k);
     let q = d.pending as usize;
-    block[q] = slots::slot_of(op, k as u8, s.round);
     buffers::put(payload, BYTES_PER_SLOT * (SLOTS_PER_NODE * k + q), bytes);
-    let state = add_pending(s, k);
-    Carried { state, block }
 }
 
-// Answers some bytes of node k with a Format Error in its queue.
-fn answer(s: State, k: usize, bytes: &[u8], queues: &mut [u8]) -> State
-    requires { ⌜ (k < 8) × (nodeState s k .fill + answerLength (length (now bytes)) ≤ bytesPerQueue) ⌝ }
-    requires { ⌜ length (now queues) ≡ queueBytes ⌝ }
-    ensures after { λ r. ⌜ r ≡ addFill s k (answerLength (length (now (bytes .entry)))) ⌝ }
-    ensures laid { λ _. ⌜ now (queues .exit) ≡ queueWith s k (now (queues .entry)) (formatError (now (bytes .entry))) ⌝ }
+// Answers some bytes of node k with a Format Error behind the fill of its queue.
+fn answer(d: NodeState, k: usize, bytes: &[u8], queues: &mut [u8])
+    requires { ⌜ (k < 8) × (d .fill + answerLength (length (now bytes)) ≤ bytesPerQueue) × (length (now queues) ≡ queueBytes) ⌝ }
+    ensures { λ _. ⌜ now (queues .exit) ≡ queueWith d k (now (queues .entry)) (formatError (now (bytes .entry))) ⌝ }
 {
-    let d = bus_state::entry(s, k);
     lay_format_error(queues, QUEUE_CAPACITY * k + d.fill as usize, bytes);
-    add_fill(s, k, ANSWER_HEAD + bytes.len())
 }
 
 // Puts a Wakeup of node k into the queue of node j.
@@ -480,63 +427,12 @@ fn wake(s: State, k: usize, queues: &mut [u8]) -> State
     now
 }
 
-// Carries a step out, which can be done. Whatever the other slots are, they stay.
-fn carry_step(
-    s: State,
-    k: usize,
-    step: Step,
-    at: usize,
-    buffer: &[u8],
-    block: [Slot; 4],
-    payload: &mut [u8],
-    queues: &mut [u8],
-) -> Carried
-    requires { ⌜ (k < 8) × (s .count ≤ 8) × (at < step .end) × (step .end ≤ length (now buffer)) × (length (now buffer) ≤ maxSubmit) ⌝ }
-    requires { ⌜ (length (now payload) ≡ payloadBytes) × (length (now queues) ≡ queueBytes) ⌝ }
-    requires { ⌜ (check s k (step .effect) (step .end - at) ≡ Verdict.Goes) × SmallRate (step .effect) × DataFit (step .effect) (now buffer) at (step .end) ⌝ }
-    ensures { λ r. ⌜ ((slots : List Slot) → held (r .state) (setBlock slots (slotsPerNode * k) (r .block)) (now (payload .exit)) (now (queues .exit)) ≡ memoryAfter (held s (setBlock slots (slotsPerNode * k) block) (now (payload .entry)) (now (queues .entry))) k (step .effect) (take (step .end - at) (drop at (now (buffer .entry))))) ⌝ }
-{
-    let effect = step.effect;
-    let end = step.end;
-    match effect {
-        Effect::Nothing => Carried { state: s, block },
-        Effect::Transmit(op) => {
-            if is_off(s, k) {
-                return Carried { state: s, block };
-            }
-            let bytes = decoder::data(buffer, op, Cursor { at: end });
-            put_frame(s, k, op, block, payload, bytes)
-        }
-        Effect::Answer => {
-            let state = answer(s, k, &buffer[at..end], queues);
-            Carried { state, block }
-        }
-        Effect::SetRate(i, rate) => {
-            let state = set_rate(s, k, i as usize, rate);
-            Carried { state, block }
-        }
-        Effect::SetBehaviour(behaviour) => {
-            let state = set_behaviour(s, k, behaviour);
-            Carried { state, block }
-        }
-        Effect::SetStatus(status) => {
-            let state = set_status(s, k, status);
-            Carried { state, block }
-        }
-        Effect::Wake => {
-            if is_off(s, k) {
-                return Carried { state: s, block };
-            }
-            let state = wake(s, k, queues);
-            Carried { state, block }
-        }
-    }
-}
-
-// Carries a buffer out, of which every step can be done, from the state and the sender's four slots.
+// Carries a buffer out, of which every step can be done, from the state with this entry of its sender and the sender's four slots.
+// Whatever the other slots are, they stay.
 fn carry_buffer(
     s: State,
     k: usize,
+    entry: NodeState,
     buffer: &[u8],
     four: [Slot; 4],
     payload: &mut [u8],
@@ -544,22 +440,46 @@ fn carry_buffer(
 ) -> Carried
     requires { ⌜ (k < 8) × (s .count ≤ 8) × (length (now buffer) ≤ maxSubmit) ⌝ }
     requires { ⌜ (length (now payload) ≡ payloadBytes) × (length (now queues) ≡ queueBytes) ⌝ }
-    requires { ⌜ checkItems k (itemsOf (now buffer)) s ≡ Verdict.Goes ⌝ }
-    ensures { λ r. ⌜ ((slots : List Slot) → held (r .state) (setBlock slots (slotsPerNode * k) (r .block)) (now (payload .exit)) (now (queues .exit)) ≡ memoryAfterAll k (itemsOf (now (buffer .entry))) (held s (setBlock slots (slotsPerNode * k) four) (now (payload .entry)) (now (queues .entry)))) ⌝ }
+    requires { ⌜ checkItems k (itemsOf (now buffer)) (withEntry s k entry) ≡ Verdict.Goes ⌝ }
+    ensures { λ r. ⌜ ((slots : List Slot) → held (r .state) (setBlock slots (slotsPerNode * k) (r .block)) (now (payload .exit)) (now (queues .exit)) ≡ memoryAfterAll k (itemsOf (now (buffer .entry))) (held (withEntry s k entry) (setBlock slots (slotsPerNode * k) four) (now (payload .entry)) (now (queues .entry)))) ⌝ }
 {
     let mut state = s;
+    let mut d = entry;
     let mut block = four;
     let mut at: usize = 0;
     loop {
         match step_at(buffer, at) {
             Next::End => {
-                return Carried { state, block };
+                let last = bus_state::with_entry(state, k, d);
+                return Carried { state: last, block };
             }
             Next::At(step) => {
-                let after = carry_step(state, k, step, at, buffer, block, payload, queues);
-                state = after.state;
-                block = after.block;
-                at = step.end;
+                let effect = step.effect;
+                let end = step.end;
+                let after = entry_after(d, effect, end - at);
+                match effect {
+                    Effect::Nothing => {}
+                    Effect::Transmit(op) => {
+                        if d.status != operation::BUS_OFF {
+                            let q = d.pending as usize;
+                            lay_data(d, k, decoder::data(buffer, op, Cursor { at: end }), payload);
+                            block[q] = slots::slot_of(op, k as u8, state.round);
+                        }
+                    }
+                    Effect::Answer => {
+                        answer(d, k, &buffer[at..end], queues);
+                    }
+                    Effect::SetRate(_, _) => {}
+                    Effect::SetBehaviour(_) => {}
+                    Effect::SetStatus(_) => {}
+                    Effect::Wake => {
+                        if d.status != operation::BUS_OFF {
+                            state = wake(bus_state::with_entry(state, k, d), k, queues);
+                        }
+                    }
+                }
+                d = after;
+                at = end;
             }
         }
     }
@@ -587,13 +507,14 @@ pub fn submit(
         return outcome::unchanged(Outcome::BufferTooLong, s, a);
     }
     let k = node as usize;
-    match check_buffer(s, k, buffer) {
+    let d = bus_state::entry(s, k);
+    match check_buffer(s, k, d, buffer) {
         Verdict::FourPending => outcome::unchanged(Outcome::FourPending, s, a),
         Verdict::QueueFull => outcome::unchanged(Outcome::QueueFull, s, a),
         Verdict::Goes => {
             let at = SLOTS_PER_NODE * k;
             let four = outcome::block_at(a, at);
-            let after = carry_buffer(s, k, buffer, four, payload, queues);
+            let after = carry_buffer(s, k, d, buffer, four, payload, queues);
             let state = after.state;
             let block = after.block;
             Change {

@@ -1,100 +1,226 @@
--- The loop's invariant: the items from the position on, from the present memory, give what all give from the first, and can be done.
-use Prim.Native.Nat.{_≤_, _-_, _*_}
-use Rattle.bus_state.specs.Memory.{held, slotsPerNode, payloadBytes, queueBytes}
+-- The loop's invariant: what is left of the buffer goes on as the whole did.
+use Prim.Native.Nat.{_-_, _*_}
+use Rattle.bus_state.specs.Entries.{withEntry}
+use Rattle.bus_state.specs.Memory.{held, slotsPerNode}
 use Rattle.decoder.specs.Stream.{itemsOf}
 use Rattle.slots.specs.Slots.{setBlock}
 use Rattle.slots.specs.declared.Slot.{Slot}
 use Rattle.submission.proofs.Takes.{next-end, next-taken}
-use Rattle.submission.proofs.Walks.{check-first, memory-end, step-count, step-check, step-memory}
+use Rattle.submission.proofs.Turns.{Going, turn-can, turn-few, turn-fits, turn-room, quiet-turn, answer-turn, wake-turn, frame-turn}
+use Rattle.submission.proofs.Walks.{memory-end}
 use Rattle.submission.specs.Carrying.{memoryAfterAll}
-use Rattle.submission.specs.Counting.{checkItems}
-use Rattle.submission.specs.declared.Verdict.the-variants.{Goes}
+use Rattle.submission.specs.Effects.{Taken}
 use borrow.Author.Needs.{needs}
+use borrow.Author.Tests.{eq-eqb, ne-eqb}
 use denote.Ref.{now}
-use lib.ListN.{length, drop}
-use mathlib.Core.List.{List, []}
+use lib.ListN.{length, length-map}
+use mathlib.Core.List.{List}
 use mathlib.Core.Path.{_≡_, refl, sym, _∙_}
 use native.Mathlib.Omega.{arith}
 use Rattle.submission.proofs.carry_buffer.Statement.{statement}
 use Rattle.submission.proofs.carry_buffer.Tie as tie
 
 abbrev Inv-loop : tie.InvT-loop
-Inv-loop k buffer payload₀ queues₀ state₀ block₀ at₀ payload queues state block at =
-    (state .count ≤ 8)
-    × (length payload ≡ payloadBytes)
-    × (length queues ≡ queueBytes)
-    × (checkItems k (itemsOf (drop at buffer)) state ≡ Goes)
-    × ((slots : List Slot)
-    → memoryAfterAll k (itemsOf (drop at buffer)) (held state (setBlock slots (slotsPerNode * k) block) payload queues)
-    ≡ memoryAfterAll k (itemsOf buffer) (held state₀ (setBlock slots (slotsPerNode * k) block₀) payload₀ queues₀))
+Inv-loop k buffer payload₀ queues₀ state₀ d₀ block₀ at₀ payload queues state d block at =
+    Going k buffer
+    (λ (slots : List Slot). memoryAfterAll k (itemsOf buffer) (held (withEntry state₀ k d₀) (setBlock slots (slotsPerNode * k) block₀) payload₀ queues₀))
+    at state d block payload queues
 
 abbrev μ-loop : tie.MeasureT-loop
-μ-loop k buffer payload₀ queues₀ state₀ block₀ at₀ payload queues state block at = length buffer - at
+μ-loop k buffer payload₀ queues₀ state₀ d₀ block₀ at₀ payload queues state d block at = length buffer - at
+
+-- the step that a turn takes
+turn : (c : tie.After-known-told Inv-loop μ-loop)
+    → let p = c .before .before .before in
+    Taken (now (p .before .before .before .before .before .args .buffer)) (p .before .loop .at) (c .before .step .given .0 .0)
+turn c =
+    let p = c .before .before .before in
+    next-taken (now (p .before .before .before .before .before .args .buffer)) (p .before .loop .at) (p .step-at .ensures) (c .before .step .given .1)
 
 loop-holds : tie.Need-loop-holds Inv-loop μ-loop
 loop-holds c =
     let b = c .before .before .before in
-    (omega arith, b .pre .1 .0 .0, b .pre .1 .0 .1, b .pre .1 .1, λ slots. refl)
-
-step-at-requires : tie.Need-step-at-requires Inv-loop μ-loop
-step-at-requires c κs = search needs
-
-enum-told : tie.Need-enum-told Inv-loop μ-loop
-enum-told c = search needs
+    let n : length (b .args .s .nodes) ≡ 8 = sym (length-map (b .args .s .nodes) _) ∙ b .good .0 .1 .1 .1 .1 .0 .1 .0 .1 in
+    record {
+      few = omega arith;
+      there = rw n (omega arith);
+      four = b .good .1 .1 .1 .1 .0 .1 .0 .1;
+      payload = b .pre .1 .0 .0;
+      queues = b .pre .1 .0 .1;
+      goes = b .pre .1 .1;
+      gives = λ slots. refl;
+    }
 
 same-length : tie.Need-same-length Inv-loop μ-loop
 same-length c =
-    let l = c .before .before .before in
-    l .loop .inv .1 ∙ sym (l .before .before .before .before .pre .1 .0 .0)
+    let l = c .before .before .before .before in
+    l .loop .inv .payload ∙ sym (l .before .before .before .before .pre .1 .0 .0)
 
 same-length-2 : tie.Need-same-length-2 Inv-loop μ-loop
 same-length-2 c =
-    let l = c .before .before .before in
-    l .loop .inv .2 ∙ sym (l .before .before .before .before .pre .1 .0 .1)
+    let l = c .before .before .before .before in
+    l .loop .inv .queues ∙ sym (l .before .before .before .before .pre .1 .0 .1)
 
 returns : tie.Need-returns Inv-loop μ-loop
 returns c =
-    let p = c .before .before in
+    let p = c .before .before .before in
     let l = p .before .loop in
     let b = p .before .before .before .before .before in
     let s = now (b .args .buffer) in
-    λ slots. sym (memory-end s (l .at) (b .args .k) _ (next-end s (l .at) (p .step-at .ensures) (c .enum-told .given .1))) ∙ l .inv .4 slots
+    λ slots. rw (c .with-entry .ensures) (sym (memory-end s (l .at) (b .args .k) _ (next-end s (l .at) (p .step-at .ensures) (c .before .enum-told .given .1))) ∙ l .inv .gives slots)
 
-enum-known-step : tie.Need-enum-known-step Inv-loop μ-loop
-enum-known-step c = search needs
+sub-entry-after : tie.Need-sub-entry-after Inv-loop μ-loop
+sub-entry-after c = omega (arith, turn c .forward)
 
-carry-step-requires : tie.Need-carry-step-requires Inv-loop μ-loop
-carry-step-requires c κs =
-    let g = c .before .before .before in
-    let p = g .before .before in
-    let l = p .before .loop in
-    let b = p .before .before .before .before .before in
-    let t = next-taken (now (b .args .buffer)) (l .at) (p .step-at .ensures) (g .step .given .1) in
-    ((omega arith, l .inv .0, t .forward, t .within, omega arith), ((l .inv .1, l .inv .2), (check-first (now (b .args .buffer)) (l .at) _ t (b .args .k) (l .state) (l .inv .3), t .rate, t .fit)))
+entry-after-requires : tie.Need-entry-after-requires Inv-loop μ-loop
+entry-after-requires c κs =
+    let t = turn c in
+    (omega (arith, t .within), turn-can (c .before .before .before .before .loop .inv) _ t, t .rate)
+
+lay-data-requires : tie.Need-lay-data-requires Inv-loop μ-loop
+lay-data-requires c κs =
+    let e = c .before .before .before .before .before .before .before .before in
+    let w = e .before in
+    let g = w .before .before .before .before .loop .inv in
+    let q = c .before .before .before .before .before .before .effect .given .1 in
+    (w .before .before .before .before .before .before .before .before .pre .0 .0, turn-few g _ (turn w) q (ne-eqb _ _ (c .before .before .before .if1 .taken)), g .payload, rw (c .before .«data» .ensures) (turn w .fit _ q .1))
+
+cast-slot-of : tie.Need-cast-slot-of Inv-loop μ-loop
+cast-slot-of c = omega (arith, c .before .before .before .before .before .before .before .before .before .before .before .before .before .before .before .before .before .before .before .before .pre .0 .0)
+
+array-set-from-block : tie.Need-array-set-from-block Inv-loop μ-loop
+array-set-from-block c =
+    let e = c .before .before .before .before .before .before .before .before .before .before .before .before in
+    let w = e .before in
+    let g = w .before .before .before .before .loop .inv in
+    let few = turn-few g _ (turn w) (c .before .before .before .before .before .before .before .before .before .before .effect .given .1) (ne-eqb _ _ (c .before .before .before .before .before .before .before .if1 .taken)) in
+    search needs
+
+sub-answer : tie.Need-sub-answer Inv-loop μ-loop
+sub-answer c =
+    let t = turn (c .before .before .before) in
+    omega (arith, t .forward)
+
+part-answer-start : tie.Need-part-answer-start Inv-loop μ-loop
+part-answer-start c =
+    let t = turn (c .before .before .before) in
+    omega (arith, t .forward, t .within)
+
+part-answer-end : tie.Need-part-answer-end Inv-loop μ-loop
+part-answer-end c =
+    let t = turn (c .before .before .before) in
+    omega (arith, t .forward, t .within)
+
+answer-requires : tie.Need-answer-requires Inv-loop μ-loop
+answer-requires c κs =
+    let e = c .before .before .before .before in
+    let w = e .before in
+    let g = w .before .before .before .before .loop .inv in
+    (w .before .before .before .before .before .before .before .before .pre .0 .0, turn-fits g _ (turn w) (c .before .before .enum-told3 .given .1), g .queues)
+
+wake-requires : tie.Need-wake-requires Inv-loop μ-loop
+wake-requires c κs =
+    let e = c .before .before .before .before .before .before in
+    let w = e .before in
+    let g = w .before .before .before .before .loop .inv in
+    rw (c .before .with-entry2 .ensures) ((g .few, turn-room g _ (turn w) (c .before .before .before .before .enum-told7 .given .1) (ne-eqb _ _ (c .before .before .if2 .taken))), g .queues)
 
 loop-less : tie.Need-loop-less Inv-loop μ-loop
-loop-less c =
-    let g = c .before .before .before .before .before .before .before .before .before .before in
-    let p = g .before .before in
-    let b = p .before .before .before .before .before in
-    let t = next-taken (now (b .args .buffer)) (p .before .loop .at) (p .step-at .ensures) (g .step .given .1) in
-    omega (arith, t .forward, t .within)
+loop-less c = let t = turn (c .before .before .before) in omega (arith, t .forward, t .within)
 
 loop-again : tie.Need-loop-again Inv-loop μ-loop
 loop-again c =
-    let w = c .before .before .before .before .before .before in
-    let g = w .before .before .before .before in
-    let p = g .before .before in
-    let l = p .before .loop in
-    let b = p .before .before .before .before .before in
-    let s = now (b .args .buffer) in
-    let k = b .args .k in
-    let t = next-taken s (l .at) (p .step-at .ensures) (g .step .given .1) in
-    let e = w .carry-step .ensures in
-    (rw (step-count s (l .at) _ t k _ (e [])) (l .inv .0), omega (arith, c .before .before .before .before .before .payload .given), omega (arith, c .before .before .before .queues .given), step-check s (l .at) _ t k _ (e []) (l .inv .3), λ slots. step-memory s (l .at) _ t k _ (e slots) ∙ l .inv .4 slots)
+    let e = c .before .before in
+    let w = e .before in
+    let g = w .before .before .before .before .loop .inv in
+    quiet-turn g _ (turn w) (e .entry-after .ensures) (rw (c .enum-told2 .given .1))
+
+loop-less-2 : tie.Need-loop-less-2 Inv-loop μ-loop
+loop-less-2 c = let t = turn (c .before .before .before .before .before .before .before .before .before .before .before .before .before) in omega (arith, t .forward, t .within)
+
+loop-again-2 : tie.Need-loop-again-2 Inv-loop μ-loop
+loop-again-2 c =
+    let e = c .before .before .before .before .before .before .before .before .before .before .before .before in
+    let w = e .before in
+    let g = w .before .before .before .before .loop .inv in
+    let q = c .before .before .before .before .before .before .before .before .before .before .effect .given .1 in
+    let d = c .before .before .before .before .before in
+    frame-turn g _ (turn w) (e .entry-after .ensures) q (ne-eqb _ _ (c .before .before .before .before .before .before .before .if1 .taken)) (c .before .before .payload .given) (d .«data» .ensures ∙ turn w .fit _ q .0) (rw (c .slot-of .ensures)) (c .before .before .before .lay-data .ensures)
+
+loop-less-3 : tie.Need-loop-less-3 Inv-loop μ-loop
+loop-less-3 c = let t = turn (c .before .before .before .before .before .before) in omega (arith, t .forward, t .within)
+
+loop-again-3 : tie.Need-loop-again-3 Inv-loop μ-loop
+loop-again-3 c =
+    let e = c .before .before .before .before .before in
+    let w = e .before in
+    let g = w .before .before .before .before .loop .inv in
+    quiet-turn g _ (turn w) (e .entry-after .ensures) (rw (c .before .before .before .effect .given .1) (eq-eqb _ _ (c .if1 .left)))
+
+loop-less-4 : tie.Need-loop-less-4 Inv-loop μ-loop
+loop-less-4 c = let t = turn (c .before .before .before .before .before .before .before .before) in omega (arith, t .forward, t .within)
+
+loop-again-4 : tie.Need-loop-again-4 Inv-loop μ-loop
+loop-again-4 c =
+    let e = c .before .before .before .before .before .before .before in
+    let w = e .before in
+    let g = w .before .before .before .before .loop .inv in
+    answer-turn g _ (turn w) (e .entry-after .ensures) (c .before .before .before .before .before .enum-told3 .given .1) (c .before .queues .given) (c .before .before .answer .ensures)
+
+loop-less-5 : tie.Need-loop-less-5 Inv-loop μ-loop
+loop-less-5 c = let t = turn (c .before .before .before) in omega (arith, t .forward, t .within)
+
+loop-again-5 : tie.Need-loop-again-5 Inv-loop μ-loop
+loop-again-5 c =
+    let e = c .before .before in
+    let w = e .before in
+    let g = w .before .before .before .before .loop .inv in
+    quiet-turn g _ (turn w) (e .entry-after .ensures) (rw (c .enum-told4 .given .1))
+
+loop-less-6 : tie.Need-loop-less-6 Inv-loop μ-loop
+loop-less-6 c = let t = turn (c .before .before .before) in omega (arith, t .forward, t .within)
+
+loop-again-6 : tie.Need-loop-again-6 Inv-loop μ-loop
+loop-again-6 c =
+    let e = c .before .before in
+    let w = e .before in
+    let g = w .before .before .before .before .loop .inv in
+    quiet-turn g _ (turn w) (e .entry-after .ensures) (rw (c .enum-told5 .given .1))
+
+loop-less-7 : tie.Need-loop-less-7 Inv-loop μ-loop
+loop-less-7 c = let t = turn (c .before .before .before) in omega (arith, t .forward, t .within)
+
+loop-again-7 : tie.Need-loop-again-7 Inv-loop μ-loop
+loop-again-7 c =
+    let e = c .before .before in
+    let w = e .before in
+    let g = w .before .before .before .before .loop .inv in
+    quiet-turn g _ (turn w) (e .entry-after .ensures) (rw (c .enum-told6 .given .1))
+
+loop-less-8 : tie.Need-loop-less-8 Inv-loop μ-loop
+loop-less-8 c = let t = turn (c .before .before .before .before .before .before .before .before .before .before) in omega (arith, t .forward, t .within)
+
+loop-again-8 : tie.Need-loop-again-8 Inv-loop μ-loop
+loop-again-8 c =
+    let e = c .before .before .before .before .before .before .before .before .before in
+    let w = e .before in
+    let g = w .before .before .before .before .loop .inv in
+    let k = c .before .before in
+    let i = k .before .before .before in
+    let q = k .before .before .with-entry2 .ensures in
+    wake-turn g _ (turn w) (e .entry-after .ensures) (i .before .before .enum-told7 .given .1) (ne-eqb _ _ (i .if2 .taken)) (c .before .queues2 .given) (rw (k .wake .ensures .0, q)) (rw (k .wake .ensures .1, q))
+
+loop-less-9 : tie.Need-loop-less-9 Inv-loop μ-loop
+loop-less-9 c = let t = turn (c .before .before .before .before .before) in omega (arith, t .forward, t .within)
+
+loop-again-9 : tie.Need-loop-again-9 Inv-loop μ-loop
+loop-again-9 c =
+    let e = c .before .before .before .before in
+    let w = e .before in
+    let g = w .before .before .before .before .loop .inv in
+    quiet-turn g _ (turn w) (e .entry-after .ensures) (rw (c .before .before .enum-told7 .given .1) (eq-eqb _ _ (c .if2 .left)))
 
 pub carry-buffer-spec : {M : Type 1} → statement M
 carry-buffer-spec =
     tie.close
-    (tie.spec Inv-loop μ-loop loop-holds step-at-requires enum-told same-length same-length-2 returns
-    enum-known-step carry-step-requires loop-less loop-again)
+    (tie.spec Inv-loop μ-loop loop-holds (λ c κs. search needs) (λ c. search needs) (λ c κs. search needs) same-length same-length-2 returns (λ c. search needs) sub-entry-after entry-after-requires (λ c. search needs) (λ c. search needs) (λ c. search needs) (λ c κs. search needs) lay-data-requires cast-slot-of (λ c κs. search needs) (λ c. search needs) array-set-from-block (λ c. search needs) sub-answer part-answer-start part-answer-end answer-requires (λ c. search needs) (λ c. search needs) (λ c. search needs) (λ c. search needs) (λ c κs. search needs) wake-requires loop-less loop-again loop-less-2 loop-again-2 loop-less-3 loop-again-3 loop-less-4 loop-again-4 loop-less-5 loop-again-5 loop-less-6 loop-again-6 loop-less-7 loop-again-7 loop-less-8 loop-again-8 loop-less-9 loop-again-9)
