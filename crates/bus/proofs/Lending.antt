@@ -1,13 +1,19 @@
 -- When the lent memory has the sizes it must have, and what a call then comes to.
 -- Assumes nothing.
-use mathlib.Core.Path.{_≡_, refl, sym}
+use mathlib.Core.Path.{_≡_, refl, sym, _∙_}
 use mathlib.Core.Bool.{Bool, true, false, _&&_}
+use mathlib.Core.List.{List}
+use native.Mathlib.Omega.{arith}
 use Prim.Native.Nat.{ℕ}
 use lib.Dec.{leb, ltb, eqb}
 use lib.ListN.{length}
 use Rattle.operation.proofs.Tests.{false-is-true}
 use Rattle.bus_state.specs.Memory.{Memory, slotCount, payloadBytes, queueBytes}
 use Rattle.bus_state.specs.Valid.{validState}
+use Rattle.bus_state.specs.declared.State.{State}
+use Rattle.slots.specs.declared.Slot.{Slot}
+use Rattle.scan.proofs.Scanned.{valid-key, invalid-key}
+use Rattle.bus.specs.Left.{Scanned}
 use Rattle.plain_bus.specs.Refusal.{badNodeCount, invalid, notAttached, roomTooSmall}
 use Rattle.plain_bus.specs.Calls.{accepted, collected}
 use Rattle.bus_model.specs.Primitives.{entryAt, emptyQueue, startMemory}
@@ -79,3 +85,12 @@ pub collect-done : (m : Memory) (k room : ℕ) → attachedIn m k ≡ true → l
     → collection m k room ≡ replies (collected (queueAt m k)) (emptyQueue m k)
 unfolding collection
 collect-done m k room e f = rw (e, f)
+
+-- ---- by the key of the pass
+
+module _ {s : State} {key : ℕ} {a : List Slot} (h : Scanned s key a) where
+  pub valid-by-key : (key ≡ 0 → ⊥) → validState s a ≡ true
+  valid-by-key n = let e = h .key-is in valid-key s a (omega (arith, n))
+
+  pub invalid-by-key : key ≡ 0 → validState s a ≡ false
+  invalid-by-key e = invalid-key s a (h .key-is ∙ e)

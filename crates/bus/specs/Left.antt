@@ -1,9 +1,13 @@
 -- What a public call leaves: its answer, with the state in it, and the lent memory.
 -- Assumes nothing.
+use mathlib.Core.Path.{_≡_}
 use Prim.Native.Nat.{ℕ}
 use mathlib.Core.List.{List}
+use lib.ListN.{length}
 use Rattle.slots.specs.declared.Slot.{Slot}
-use Rattle.bus_state.specs.Memory.{held}
+use Rattle.bus_state.specs.Memory.{held, slotCount}
+use Rattle.bus_state.specs.declared.State.{State}
+use Rattle.scan.specs.Scan.{scanned}
 use Rattle.bus_model.specs.Calls.{Result}
 use Rattle.outcome.specs.Outcome.{outcomeIs, answerOf, Ended}
 use Rattle.outcome.specs.declared.Answer.{Answer}
@@ -30,3 +34,10 @@ startedBy c payload queues = record { outcome = c .outcome; memory = held (c .st
 
 abbrev pub keptBy : Kept → List Slot → List ℕ → List ℕ → Ended
 keptBy c slots payload queues = record { outcome = c .outcome; memory = held (c .state) slots payload queues }
+
+-- ---- the slots that a call is made on
+
+-- all 32 of them, and what the pass over them comes to
+pub record Scanned (s : State) (key : ℕ) (a : List Slot) : Type 0 where
+  pub slots : length a ≡ slotCount
+  pub key-is : scanned s a ≡ key

@@ -1,14 +1,16 @@
 // The calls of the bus with the slots by value: the refusals 1 and 3 in front, then what the call does. The public calls load the
 // lent slots, call these, and put back the slots that changed.
 ghost use mathlib.Core.Path.{_≡_};
+ghost use mathlib.Core.List.{List};
 ghost use Prim.Native.Nat.{_+_, _≤_};
 ghost use lib.ListN.{length};
+ghost use Rattle.slots.specs.declared.Slot.{Slot};
 ghost use Rattle.bus_state.specs.Memory.{held};
 ghost use Rattle.bus_model.specs.Primitives.{newEntry, newState};
 ghost use Rattle.bus_model.specs.Calls.{startIn, submitIn, roundIn, collectIn, bufferAfter};
 ghost use Rattle.outcome.specs.Outcome.{answerOf, endedBy, ended};
 ghost use Rattle.arbitration.specs.Injections.{injectionFrom};
-ghost use Rattle.bus.specs.Left.{startedBy, keptBy};
+ghost use Rattle.bus.specs.Left.{startedBy, keptBy, Scanned};
 use bus_state::NodeState;
 use bus_state::State;
 use outcome::Answer;
@@ -140,14 +142,15 @@ pub fn round(
 // The queue goes to the front of the caller's buffer.
 pub fn collect(
     s: State,
-    a: [Slot; 32],
+    key: u64,
     payload: &[u8],
     queues: &[u8],
     node: u32,
     buffer: &mut [u8],
 ) -> Kept
-    ensures kept { λ r. ⌜ keptBy r a (now (payload .entry)) (now (queues .entry)) ≡ ended (collectIn (held s a (now (payload .entry)) (now (queues .entry))) node (length (now (buffer .entry)))) ⌝ }
-    ensures written { λ r. ⌜ now (buffer .exit) ≡ bufferAfter (collectIn (held s a (now (payload .entry)) (now (queues .entry))) node (length (now (buffer .entry))) .reply) (now (buffer .entry)) ⌝ }
+    requires { ⌜ ((a : List Slot) × Scanned s key a) ⌝ }
+    ensures kept { λ r. ⌜ ((a : List Slot) → Scanned s key a → keptBy r a (now (payload .entry)) (now (queues .entry)) ≡ ended (collectIn (held s a (now (payload .entry)) (now (queues .entry))) node (length (now (buffer .entry))))) ⌝ }
+    ensures written { λ _. ⌜ ((a : List Slot) → Scanned s key a → now (buffer .exit) ≡ bufferAfter (collectIn (held s a (now (payload .entry)) (now (queues .entry))) node (length (now (buffer .entry))) .reply) (now (buffer .entry))) ⌝ }
 {
     if payload.len() != PAYLOAD_BYTES {
         return Kept {
@@ -161,7 +164,7 @@ pub fn collect(
             state: s,
         };
     }
-    if !bus_state::is_valid(s, a) {
+    if key == scan::INVALID {
         return Kept {
             outcome: Outcome::Invalid,
             state: s,

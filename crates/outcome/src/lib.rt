@@ -2,8 +2,8 @@
 ghost use mathlib.Core.Path.{_≡_};
 ghost use Prim.Native.Nat.{_<_, _+_, _≤_};
 ghost use lib.ListN.{getD};
-ghost use Rattle.slots.specs.Slots.{freeSlot};
-ghost use Rattle.outcome.specs.Outcome.{answerOf, answerRow, unchanged, blockAt};
+ghost use Rattle.slots.specs.Slots.{freeSlot, blockAt};
+ghost use Rattle.outcome.specs.Outcome.{answerOf, answerRow, unchanged};
 use bus_state::State;
 use slots::Slot;
 
