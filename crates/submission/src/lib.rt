@@ -335,9 +335,9 @@ fn check_buffer(s: State, k: usize, entry: NodeState, buffer: &[u8]) -> Verdict
                 let effect = step.effect;
                 let size = step.end - at;
                 if is_wakeup(d, effect) {
-                    let current = bus_state::with_entry(state, k, d);
-                    if wakeup_has_room(current, k) {
-                        state = woken(current, k);
+                    state = bus_state::with_entry(state, k, d);
+                    if wakeup_has_room(state, k) {
+                        state = woken(state, k);
                         at = step.end;
                     } else {
                         return Verdict::QueueFull;
@@ -451,8 +451,8 @@ fn carry_buffer(
     loop {
         match step_at(buffer, at) {
             Next::End => {
-                let last = bus_state::with_entry(state, k, d);
-                return Carried { state: last, block };
+                state = bus_state::with_entry(state, k, d);
+                return Carried { state, block };
             }
             Next::At(step) => {
                 let effect = step.effect;
