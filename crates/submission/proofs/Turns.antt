@@ -41,6 +41,7 @@ pub record Going (k : ℕ) (buffer : List ℕ) (all : List Slot → Memory) (at 
 
 module _ {k : ℕ} {buffer : List ℕ} {all : List Slot → Memory} {at : ℕ} {s : State} {d : NodeState} {block : List Slot} {p q : List ℕ}
     (g : Going k buffer all at s d block p q) (r : Step) (t : Taken buffer at r) where
+  -- the step can be done: what that says of the sender's entry and of the queues
   can : check (withEntry s k d) k (r .effect) (r .end - at) ≡ Goes
   can = check-first buffer at r t k (withEntry s k d) (g .goes)
 
@@ -74,6 +75,7 @@ module _ {k : ℕ} {buffer : List ℕ} {all : List Slot → Memory} {at : ℕ} {
         gives = λ slots. step-memory buffer at r t k _ (e slots) ∙ g .gives slots;
       }
 
+  -- by what the step does besides its change of the entry
   module _ {x : NodeState} (n : x ≡ entryAfter d (r .effect) (r .end - at)) where
     pub quiet-turn : quiet d (r .effect) ≡ true → Going k buffer all (r .end) s x block p q
     quiet-turn o = turned (g .few) (g .there) (g .four) (g .payload) (g .queues) (λ slots. rw n (after-quiet s k d (g .there) p q _ _ _ (r .effect) o))

@@ -3,13 +3,14 @@
 use Prim.Native.Nat.{ℕ, zero, suc, _+_, _*_}
 use mathlib.Core.List.{List, [], _∷_}
 use mathlib.Core.Bool.{cond}
+use lib.Dec.{ltb}
 use lib.ListN.{set, drop}
 use Rattle.buffers.specs.Parts.{over}
 use Rattle.operation.specs.Format.{headLength, encode}
 use Rattle.operation.specs.declared.Operation.the-variants.{Wakeup}
 use Rattle.decoder.specs.Stream.{Item, bytesOf}
 use Rattle.plain_bus.specs.Submit.{formatError}
-use Rattle.bus_state.specs.Memory.{Memory, bytesPerQueue, nodeState}
+use Rattle.bus_state.specs.Memory.{Memory, slotsPerNode, bytesPerQueue, nodeState}
 use Rattle.bus_state.specs.Entries.{entryBehaviour, entryRates}
 use Rattle.bus_state.specs.declared.State.{State}
 use Rattle.bus_state.specs.declared.NodeState.{NodeState}
@@ -46,3 +47,7 @@ wakeupLaid s k j queues = cond (unreached (nodeState s j .status) k j) queues (q
 unfoldable pub wakeupsLaid : State → ℕ → ℕ → ℕ → List ℕ → List ℕ
 wakeupsLaid s k j zero queues = queues
 wakeupsLaid s k j (suc n) queues = wakeupsLaid (wokenAt s k j) k (suc j) n (wakeupLaid s k j queues)
+
+-- the first of a node's four slots; of a number past the last node slot 0
+unfoldable pub firstSlot : ℕ → ℕ
+firstSlot node = cond (ltb node 8) (slotsPerNode * node) 0

@@ -15,12 +15,11 @@ ghost use Rattle.plain_bus.specs.Submit.{formatError};
 ghost use Rattle.plain_bus.specs.Calls.{maxSubmit};
 ghost use Rattle.bus_state.specs.Memory.{held, nodeState, slotsPerNode, bytesPerSlot, bytesPerQueue, payloadBytes, queueBytes};
 ghost use Rattle.bus_state.specs.Entries.{withEntry};
-ghost use Rattle.bus_state.specs.Valid.{validState};
 ghost use Rattle.bus_model.specs.Calls.{submitted};
-ghost use Rattle.outcome.specs.Outcome.{endedBy, ended};
+ghost use Rattle.outcome.specs.Outcome.{blockAt, endedBy, ended};
 ghost use Rattle.submission.specs.Effects.{configurationEffect, operationEffect, faultEffect, SmallRate, NextIs};
 ghost use Rattle.submission.specs.Counting.{addFill, unreached, wakeupLength, fillWoken, wakeupRoom, wokenAt, wokenFrom, isWakeup, answerLength, statusSet, entryCheck, entryAfter, checkItems};
-ghost use Rattle.submission.specs.Carrying.{memoryAfterAll, queueWith, wakeupLaid, wakeupsLaid};
+ghost use Rattle.submission.specs.Carrying.{memoryAfterAll, queueWith, wakeupLaid, wakeupsLaid, firstSlot};
 use bus_state::NodeState;
 use bus_state::State;
 use decoder::Cursor;
@@ -75,6 +74,8 @@ const ANSWER_HEAD: usize = 10;
 const WAKEUP_LENGTH: usize = 8;
 
 const QUEUE_CAPACITY: usize = bus_state::QUEUE_CAPACITY as usize;
+
+const MOST_NODES: u32 = 8;
 
 const BYTES_PER_SLOT: usize = 2048;
 
@@ -334,9 +335,9 @@ fn check_buffer(s: State, k: usize, entry: NodeState, buffer: &[u8]) -> Verdict
                 let effect = step.effect;
                 let size = step.end - at;
                 if is_wakeup(d, effect) {
-                    let current = bus_state::with_entry(state, k, d);
-                    if wakeup_has_room(current, k) {
-                        state = woken(current, k);
+                    state = bus_state::with_entry(state, k, d);
+                    if wakeup_has_room(state, k) {
+                        state = woken(state, k);
                         at = step.end;
                     } else {
                         return Verdict::QueueFull;
@@ -450,8 +451,8 @@ fn carry_buffer(
     loop {
         match step_at(buffer, at) {
             Next::End => {
-                let last = bus_state::with_entry(state, k, d);
-                return Carried { state: last, block };
+                state = bus_state::with_entry(state, k, d);
+                return Carried { state, block };
             }
             Next::At(step) => {
                 let effect = step.effect;
@@ -485,35 +486,65 @@ fn carry_buffer(
     }
 }
 
+// The first of a node's four slots, for the caller that holds all: of a number past the last node it is slot 0.
+pub fn first_slot(node: u32) -> usize
+    ensures { λ r. ⌜ (r ≡ firstSlot node) × (r + 4 ≤ 32) ⌝ }
+{
+    if node < MOST_NODES {
+        return SLOTS_PER_NODE * node as usize;
+    }
+    0
+}
+
 // Submits a buffer of a node: NotAttached, BufferTooLong, then the refusal of the first step that can't be done; else all steps are
-// carried out.
+// carried out. Of the slots it has the node's four alone: whatever the others are, they stay.
 pub fn submit(
     s: State,
-    a: [Slot; 32],
+    four: [Slot; 4],
     payload: &mut [u8],
     queues: &mut [u8],
     node: u32,
     buffer: &[u8],
 ) -> Change
-    requires { ⌜ validState s a ≡ true ⌝ }
+    requires { ⌜ s .count ≤ 8 ⌝ }
     requires { ⌜ (length (now payload) ≡ payloadBytes) × (length (now queues) ≡ queueBytes) ⌝ }
-    ensures { λ r. ⌜ endedBy r a (now (payload .exit)) (now (queues .exit)) ≡ ended (submitted (held s a (now (payload .entry)) (now (queues .entry))) node (now (buffer .entry))) ⌝ }
-    ensures { λ r. ⌜ r .at + 4 ≤ 32 ⌝ }
+    ensures ended { λ r. ⌜ ((a : List Slot) → blockAt a (r .at) ≡ four → endedBy r a (now (payload .exit)) (now (queues .exit)) ≡ ended (submitted (held s a (now (payload .entry)) (now (queues .entry))) node (now (buffer .entry)))) ⌝ }
+    ensures place { λ r. ⌜ r .at ≡ firstSlot node ⌝ }
+    ensures inside { λ r. ⌜ r .at + 4 ≤ 32 ⌝ }
 {
+    let at = first_slot(node);
     if s.count <= node {
-        return outcome::unchanged(Outcome::NotAttached, s, a);
+        return Change {
+            outcome: Outcome::NotAttached,
+            state: s,
+            at,
+            block: four,
+        };
     }
     if LONGEST_BUFFER < buffer.len() {
-        return outcome::unchanged(Outcome::BufferTooLong, s, a);
+        return Change {
+            outcome: Outcome::BufferTooLong,
+            state: s,
+            at,
+            block: four,
+        };
     }
     let k = node as usize;
     let d = bus_state::entry(s, k);
     match check_buffer(s, k, d, buffer) {
-        Verdict::FourPending => outcome::unchanged(Outcome::FourPending, s, a),
-        Verdict::QueueFull => outcome::unchanged(Outcome::QueueFull, s, a),
+        Verdict::FourPending => Change {
+            outcome: Outcome::FourPending,
+            state: s,
+            at,
+            block: four,
+        },
+        Verdict::QueueFull => Change {
+            outcome: Outcome::QueueFull,
+            state: s,
+            at,
+            block: four,
+        },
         Verdict::Goes => {
-            let at = SLOTS_PER_NODE * k;
-            let four = outcome::block_at(a, at);
             let after = carry_buffer(s, k, d, buffer, four, payload, queues);
             let state = after.state;
             let block = after.block;
