@@ -2,6 +2,7 @@
 // This is for the bus crate above: what is required its caller must meet.
 ghost use mathlib.Core.Path.{_≡_};
 ghost use mathlib.Core.Bool.{true};
+ghost use mathlib.Core.List.{[]};
 ghost use Prim.Native.Nat.{_+_, _-_, _*_, _≤_, _<_};
 ghost use lib.ListN.{length};
 ghost use Rattle.operation.specs.Format.{dataLength, lengthOf, encode};
@@ -314,6 +315,30 @@ fn put_operation(op: Operation, bytes: &[u8], buffer: &mut [u8], at: usize)
     encoder::write(op, bytes, &mut buffer[at..]);
 }
 
+// Lays a Confirm over a buffer from a position on.
+fn put_confirm(id: u32, buffer: &mut [u8], at: usize)
+    requires { ⌜ (legal (Operation.Confirm id) ≡ true) × (at + 12 ≤ length (now buffer)) ⌝ }
+    ensures { λ _. ⌜ now (buffer .exit) ≡ over (now (buffer .entry)) at (encode (Operation.Confirm id) []) ⌝ }
+{
+    encoder::write_confirm(id, b"", &mut buffer[at..]);
+}
+
+// Lays a Bus Error over a buffer from a position on.
+fn put_bus_error(id: u32, code: u8, flag: u8, sender: u8, buffer: &mut [u8], at: usize)
+    requires { ⌜ (legal (Operation.BusError id code flag sender) ≡ true) × (at + 15 ≤ length (now buffer)) ⌝ }
+    ensures { λ _. ⌜ now (buffer .exit) ≡ over (now (buffer .entry)) at (encode (Operation.BusError id code flag sender) []) ⌝ }
+{
+    encoder::write_bus_error(id, code, flag, sender, b"", &mut buffer[at..]);
+}
+
+// Lays an Arbitration Lost over a buffer from a position on.
+fn put_lost(id: u32, buffer: &mut [u8], at: usize)
+    requires { ⌜ (legal (Operation.ArbitrationLost id) ≡ true) × (at + 12 ≤ length (now buffer)) ⌝ }
+    ensures { λ _. ⌜ now (buffer .exit) ≡ over (now (buffer .entry)) at (encode (Operation.ArbitrationLost id) []) ⌝ }
+{
+    encoder::write_arbitration_lost(id, b"", &mut buffer[at..]);
+}
+
 // The Error Flag at a node: the primary one where the error is detected.
 fn flag_at(j: usize, detector: u32) -> u8
     ensures { λ r. ⌜ r ≡ flagAt j detector ⌝ }
@@ -343,14 +368,7 @@ fn put_news(
     match e {
         Injection::NoError => {
             if j == owner {
-                put_operation(
-                    Operation::Confirm {
-                        id: slots::id_of(winner),
-                    },
-                    b"",
-                    queues,
-                    at,
-                );
+                put_confirm(slots::id_of(winner), queues, at);
                 return;
             }
             if off {
@@ -362,14 +380,12 @@ fn put_news(
             if off {
                 return;
             }
-            put_operation(
-                Operation::BusError {
-                    id: slots::id_of(winner),
-                    error_code: code as u8,
-                    error_flag: flag_at(j, detector),
-                    is_sender: (j == owner) as u8,
-                },
-                b"",
+            let id = slots::id_of(winner);
+            put_bus_error(
+                id,
+                code as u8,
+                flag_at(j, detector),
+                (j == owner) as u8,
                 queues,
                 at,
             );
@@ -387,8 +403,7 @@ fn put_notice(frame: Slot, wins: bool, queues: &mut [u8], at: usize) -> usize
     if wins {
         return at;
     }
-    let id = slots::id_of(frame);
-    put_operation(Operation::ArbitrationLost { id }, b"", queues, at);
+    put_lost(slots::id_of(frame), queues, at);
     at + 12
 }
 
