@@ -4,7 +4,7 @@ use mathlib.Core.Path.{_≡_}
 use mathlib.Core.Bool.{Bool, true, false}
 use mathlib.Core.List.{List}
 use Prim.Native.Nat.{ℕ, _+_, _-_, _*_, _≤_, _<_}
-use lib.ListN.{getD}
+use lib.ListN.{length, getD}
 use borrow.Author.Tests.{le-leb, lt-leb}
 use Rattle.operation.specs.Format.{dataLength, lengthOf}
 use Rattle.operation.specs.Kinds.{idOf}
@@ -14,7 +14,7 @@ use Rattle.slots.specs.declared.Slot.{Slot}
 use Rattle.plain_bus.specs.Held.{lastRound}
 use Rattle.plain_bus.specs.Order.{wins}
 use Rattle.plain_bus.specs.Round.{isErrored}
-use Rattle.bus_state.specs.Memory.{Memory, nodeState, held, frameAt}
+use Rattle.bus_state.specs.Memory.{Memory, payloadBytes, queueBytes, nodeState, held, frameAt}
 use Rattle.bus_state.specs.declared.State.{State}
 use Rattle.bus_model.specs.Round.{pendingAt, owedAt}
 use Rattle.bus_model.specs.Submit.{roomForEach}
@@ -63,9 +63,13 @@ module _ (s : State) (a : List Slot) (payload queues : List ℕ) (e : Injection)
 -- ---- the winner is pending
 
 module _ (s : State) (a : List Slot) (payload queues : List ℕ) (e : Injection) (owner position : ℕ) (four : List Slot) (ids : List ℕ)
-    (sized : Sized (held s a payload queues)) (d : DrawnAt s a owner position four ids) (c : hasLegalCode e ≡ true) where
+    (eight : length (s .nodes) ≡ 8) (lent : (length payload ≡ payloadBytes) × (length queues ≡ queueBytes))
+    (d : DrawnAt s a owner position four ids) (c : hasLegalCode e ≡ true) where
   abbrev m : Memory
   m = held s a payload queues
+
+  sized : Sized m
+  sized = record { slots = d .drawn .slots; payload = lent .0; queues = lent .1; nodes = eight }
 
   abbrev size : ℕ
   size = lengthOf (heldAt four position)

@@ -1,6 +1,6 @@
 -- What a round is given of the slots, by the slots that it is drawn from.
 -- Assumes nothing.
-use mathlib.Core.Path.{_≡_, sym, ap, _∙_}
+use mathlib.Core.Path.{_≡_, refl, sym, ap, _∙_}
 use mathlib.Core.Bool.{true}
 use mathlib.Core.List.{List, [], map}
 use Prim.Native.Nat.{ℕ, _+_, _-_, _*_, _≤_, _<_}
@@ -64,12 +64,15 @@ module _ {s : State} {a : List Slot} {owner position : ℕ} {four : List Slot} {
 
 -- ---- where the winner is not known yet
 
-pub owner-small : {s : State} {a : List Slot} {best : Winner} {four : List Slot} {ids : List ℕ} → Drawn s a best four ids → ownerOf best < 8
-owner-small {s} {a} {best} d = go best (sym (d .first))
+pub best-owner : (s : State) (a : List Slot) → validState s a ≡ true → ownerOf (bestIn s a) < 8
+best-owner s a v = go (bestIn s a) refl
   where
     go : (w : Winner) → bestIn s a ≡ w → ownerOf w < 8
     go Nobody q = omega arith
-    go (First rank owner position) q = omega (arith, count-few s a (d .valid), first-wins (held s a [] []) q .attached)
+    go (First rank owner position) q = omega (arith, count-few s a v, first-wins (held s a [] []) q .attached)
+
+pub owner-small : {s : State} {a : List Slot} {best : Winner} {four : List Slot} {ids : List ℕ} → Drawn s a best four ids → ownerOf best < 8
+owner-small {s} {a} d = rw (d .first) (best-owner s a (d .valid))
 
 pub first-drawn : {s : State} {a : List Slot} {best : Winner} {four : List Slot} {ids : List ℕ} {rank owner position : ℕ}
     → Drawn s a best four ids → best ≡ First rank owner position → DrawnAt s a owner position four ids

@@ -1,4 +1,4 @@
-// One round on a valid state: the winner is found, every queue is tested for what its node is owed, and only then bytes are written.
+// One round on a valid state, given its winner: every queue is tested for what its node is owed, and only then bytes are written.
 // This is for the bus crate above: what is required its caller must meet.
 ghost use mathlib.Core.Path.{_≡_};
 ghost use mathlib.Core.Bool.{true};

@@ -3,20 +3,15 @@ use Prim.Native.Nat.{_+_, _*_}
 use Rattle.arbitration.proofs.Attached.{count-few}
 use Rattle.arbitration.proofs.Ends.{full-ended, used-up-ended, carried-ended}
 use Rattle.arbitration.proofs.Given.{place-small, four-frames}
-use Rattle.arbitration.specs.Drawn.{DrawnAt}
 use Rattle.arbitration.specs.Winner.{heldAt}
-use Rattle.bus_model.specs.Refines.{Sized}
-use Rattle.bus_state.specs.Memory.{held}
 use Rattle.operation.proofs.Sizes.{head-small}
 use Rattle.operation.specs.Format.{lengthOf}
 use Rattle.outcome.proofs.Endings.{block-kept-ends}
 use Rattle.outcome.specs.declared.Outcome.the-variants.{QueueFull, RoundsUsedUp}
-use Rattle.slots.specs.declared.Slot.{Slot}
 use borrow.Author.Needs.{needs}
 use borrow.Author.Tests.{not-true, not-false}
 use denote.Ref.{now}
 use lib.ListN.{length-map}
-use mathlib.Core.List.{List}
 use mathlib.Core.Path.{_≡_, refl, sym, _∙_}
 use native.Mathlib.Omega.{arith}
 use Rattle.arbitration.proofs.arbitrate.Statement.{statement}
@@ -47,9 +42,9 @@ returns c =
     let a = s .args in
     let p = s .pre .1 in
     let x : c .before .before .before .head-length .result + c .before .before .data-length .result ≡ lengthOf (heldAt (a .t2) (a .position)) = rw (c .before .before .before .head-length .ensures .0, c .before .before .data-length .ensures, c .before .before .before .before .held-in .ensures) in
-    let z : (l : List Slot) → DrawnAt (a .s) l (a .owner) (a .position) (a .t2) (a .ids) → Sized (held (a .s) l (now (a .payload)) (now (a .queues))) = λ l d. record { slots = d .drawn .slots; payload = p .1 .0; queues = p .1 .1; nodes = sym (length-map (a .s .nodes) _) ∙ s .good .0 .1 .1 .1 .1 .0 .1 .0 .1 } in
+    let eight = sym (length-map (a .s .nodes) _) ∙ s .good .0 .1 .1 .1 .1 .0 .1 .0 .1 in
     let q = rw x at (sym (c .before .has-room .ensures) ∙ not-true _ (c .if1 .taken)) in
-    (λ l d. block-kept-ends QueueFull (a .s) l (4 * a .owner) (now (a .payload)) (now (a .queues)) (d .drawn .block) ∙ full-ended (a .s) l (now (a .payload)) (now (a .queues)) (a .e) (a .owner) (a .position) (a .t2) (a .ids) (z l d) d (p .0) q, refl)
+    (λ l d. block-kept-ends QueueFull (a .s) l (4 * a .owner) (now (a .payload)) (now (a .queues)) (d .drawn .block) ∙ full-ended (a .s) l (now (a .payload)) (now (a .queues)) (a .e) (a .owner) (a .position) (a .t2) (a .ids) eight (p .1) d (p .0) q, refl)
 
 mul-t24 : tie.Need-mul-t24
 mul-t24 c = let t = place-small (c .before .before .before .before .before .before .before .before .before .before .pre .0 .1) in omega (arith, t .0)
@@ -60,9 +55,9 @@ returns-2 c =
     let a = s .args in
     let p = s .pre .1 in
     let x : c .before .before .before .before .before .head-length .result + c .before .before .before .before .data-length .result ≡ lengthOf (heldAt (a .t2) (a .position)) = rw (c .before .before .before .before .before .head-length .ensures .0, c .before .before .before .before .data-length .ensures, c .before .before .before .before .before .before .held-in .ensures) in
-    let z : (l : List Slot) → DrawnAt (a .s) l (a .owner) (a .position) (a .t2) (a .ids) → Sized (held (a .s) l (now (a .payload)) (now (a .queues))) = λ l d. record { slots = d .drawn .slots; payload = p .1 .0; queues = p .1 .1; nodes = sym (length-map (a .s .nodes) _) ∙ s .good .0 .1 .1 .1 .1 .0 .1 .0 .1 } in
+    let eight = sym (length-map (a .s .nodes) _) ∙ s .good .0 .1 .1 .1 .1 .0 .1 .0 .1 in
     let q = rw x at (sym (c .before .before .before .has-room .ensures) ∙ not-false _ (c .before .before .if1 .left)) in
-    (λ l d. block-kept-ends RoundsUsedUp (a .s) l (4 * a .owner) (now (a .payload)) (now (a .queues)) (d .drawn .block) ∙ used-up-ended (a .s) l (now (a .payload)) (now (a .queues)) (a .e) (a .owner) (a .position) (a .t2) (a .ids) (z l d) d (p .0) q (c .if2 .taken), refl)
+    (λ l d. block-kept-ends RoundsUsedUp (a .s) l (4 * a .owner) (now (a .payload)) (now (a .queues)) (d .drawn .block) ∙ used-up-ended (a .s) l (now (a .payload)) (now (a .queues)) (a .e) (a .owner) (a .position) (a .t2) (a .ids) eight (p .1) d (p .0) q (c .if2 .taken), refl)
 
 carry-out-requires : tie.Need-carry-out-requires
 carry-out-requires c κs =
@@ -79,10 +74,10 @@ returns-3 c =
     let a = s .args in
     let p = s .pre .1 in
     let x : c .before .before .before .before .before .before .before .before .before .before .before .before .head-length .result + c .before .before .before .before .before .before .before .before .before .before .before .data-length .result ≡ lengthOf (heldAt (a .t2) (a .position)) = rw (c .before .before .before .before .before .before .before .before .before .before .before .before .head-length .ensures .0, c .before .before .before .before .before .before .before .before .before .before .before .data-length .ensures, c .before .before .before .before .before .before .before .before .before .before .before .before .before .held-in .ensures) in
-    let z : (l : List Slot) → DrawnAt (a .s) l (a .owner) (a .position) (a .t2) (a .ids) → Sized (held (a .s) l (now (a .payload)) (now (a .queues))) = λ l d. record { slots = d .drawn .slots; payload = p .1 .0; queues = p .1 .1; nodes = sym (length-map (a .s .nodes) _) ∙ s .good .0 .1 .1 .1 .1 .0 .1 .0 .1 } in
+    let eight = sym (length-map (a .s .nodes) _) ∙ s .good .0 .1 .1 .1 .1 .0 .1 .0 .1 in
     let q = rw x at (sym (c .before .before .before .before .before .before .before .before .before .before .has-room .ensures) ∙ not-false _ (c .before .before .before .before .before .before .before .before .before .if1 .left)) in
     let e = c .before .before .before .before .carry-out .ensures in
-    (λ l d. e .0 l d ∙ carried-ended (a .s) l (now (a .payload)) (now (a .queues)) (a .e) (a .owner) (a .position) (a .t2) (a .ids) (z l d) d (p .0) q (c .before .before .before .before .before .before .before .if2 .left), e .1)
+    (λ l d. e .0 l d ∙ carried-ended (a .s) l (now (a .payload)) (now (a .queues)) (a .e) (a .owner) (a .position) (a .t2) (a .ids) eight (p .1) d (p .0) q (c .before .before .before .before .before .before .before .if2 .left), e .1)
 
 pub arbitrate-spec : {M : Type 1} → statement M
 arbitrate-spec =

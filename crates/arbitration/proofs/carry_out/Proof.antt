@@ -3,18 +3,13 @@ use Prim.Native.Nat.{_+_, _-_, _*_}
 use Rattle.arbitration.proofs.Attached.{node-at}
 use Rattle.arbitration.proofs.Ends.{done-ended}
 use Rattle.arbitration.proofs.Given.{tellable, pending-at, place-small, winner-slot, four-frames}
-use Rattle.arbitration.specs.Drawn.{DrawnAt}
 use Rattle.arbitration.specs.Winner.{heldAt}
 use Rattle.buffers.proofs.Offsets.{length-part}
 use Rattle.buffers.specs.Parts.{part}
-use Rattle.bus_model.specs.Refines.{Sized}
-use Rattle.bus_state.specs.Memory.{held}
 use Rattle.operation.specs.Format.{dataLength}
-use Rattle.slots.specs.declared.Slot.{Slot}
 use borrow.Author.Needs.{needs}
 use denote.Ref.{now}
 use lib.ListN.{length-map}
-use mathlib.Core.List.{List}
 use mathlib.Core.Path.{_≡_, refl, sym, ap, _∙_}
 use native.Mathlib.Nat.{add-sub-cancel-left}
 use native.Mathlib.Omega.{arith}
@@ -110,8 +105,8 @@ returns c =
     let from = 2_048 * (4 * a .owner + a .position) in
     let k : from + c .before .before .before .before .before .before .before .before .before .before .before .before .before .before .before .before .data-length .result - from ≡ dataLength (heldAt (a .t2) (a .position)) = add-sub-cancel-left _ _ ∙ n in
     let g = c .before .before .before .before .before .before .before .before .before .before .before .before .tell-all .ensures in
-    let z : (l : List Slot) → DrawnAt (a .s) l (a .owner) (a .position) (a .t2) (a .ids) → Sized (held (a .s) l (now (a .payload)) (now (a .queues))) = λ l d. record { slots = d .drawn .slots; payload = p .1 .1 .0; queues = p .1 .1 .1; nodes = sym (length-map (a .s .nodes) _) ∙ s .good .0 .1 .1 .1 .1 .0 .1 .0 .1 } in
-    (λ l d. done-ended (a .s) l (now (a .payload)) (now (a .queues)) (a .e) (a .owner) (a .position) (a .t2) (a .ids) (z l d) d (p .0 .1) (rw x at (p .1 .0 .1)) (c .before .before .before .id-of .ensures) (c .before .before .is-errored .ensures) (rw x at (g .0)) (c .before .before .before .before .block-without .ensures) (c .before .before .before .before .before .before .before .move-data .ensures) (rw k at (g .1)), refl)
+    let eight = sym (length-map (a .s .nodes) _) ∙ s .good .0 .1 .1 .1 .1 .0 .1 .0 .1 in
+    (λ l d. done-ended (a .s) l (now (a .payload)) (now (a .queues)) (a .e) (a .owner) (a .position) (a .t2) (a .ids) eight (p .1 .1) d (p .0 .1) (rw x at (p .1 .0 .1)) (c .before .before .before .id-of .ensures) (c .before .before .is-errored .ensures) (rw x at (g .0)) (c .before .before .before .before .block-without .ensures) (c .before .before .before .before .before .before .before .move-data .ensures) (rw k at (g .1)), refl)
 
 pub carry-out-spec : {M : Type 1} → statement M
 carry-out-spec =
