@@ -2,13 +2,16 @@
 -- Assumes nothing.
 use mathlib.Core.Path.{_≡_, refl, _∙_}
 use mathlib.Core.Bool.{Bool, true, false, cond}
-use mathlib.Core.List.{List, []}
+use mathlib.Core.List.{List, [], map}
 use Prim.Native.Nat.{ℕ, zero, suc, _+_, _*_, _≤_, _<_}
+use native.Mathlib.Nat.{add-zero}
 use native.Mathlib.Omega.{arith}
 use lib.Dec.{eqb}
-use lib.ListN.{length}
+use lib.ListN.{length, getD}
 use borrow.Author.Tests.{eqb-true, eqb-false, eq-eqb, ne-eqb}
 use Rattle.operation.specs.Format.{dataLength, lengthOf}
+use Rattle.operation.specs.Kinds.{idOf}
+use Rattle.operation.specs.declared.Operation.{Operation}
 use Rattle.slots.specs.declared.Slot.{Slot}
 use Rattle.plain_bus.specs.Held as plain
 use Rattle.plain_bus.specs.Round.{newsFor, without, lostNotices, drops, told, owed}
@@ -29,52 +32,65 @@ use Rattle.arbitration.specs.declared.Injection.the-variants.{NoError, I
 use Rattle.arbitration.specs.Injections.{injectionOf, hasLegalCode}
 use Rattle.arbitration.specs.Winner.{heldAt}
 use Rattle.arbitration.specs.Owed.{PendingAt, isOff, discards, discarded, newsTo, noticesBut, owedTo, owedLength, roomFrom}
-use Rattle.arbitration.proofs.Attached.{count-few, node-at, node-frames}
+use Rattle.arbitration.proofs.Attached.{count-few, node-at}
+use Rattle.arbitration.proofs.Given.{id-at, tellable}
 use Rattle.arbitration.proofs.Lengths.{owed-length-is}
 
 -- ---- the notices
 
-notices-others : (m : Memory) (winner n p : ℕ) → ((i : ℕ) → i < n → p + i ≡ winner → ⊥)
-    → lostNotices (framesFrom m p n) ≡ noticesBut (m .slots) winner p n
-unfolding noticesBut framesFrom frameAt lostNotices
-notices-others m winner zero p o = refl
-notices-others m winner (suc n) p o =
-    let x : eqb p winner ≡ false = ne-eqb p winner (λ e. o 0 (omega arith) (omega arith)) in
-    rw (x, notices-others m winner n (suc p) (λ i h e. o (suc i) (omega arith) (omega arith)))
+-- the IDs of the frames after the first
+next : (m : Memory) (ids : List ℕ) (n p : ℕ) → ((i : ℕ) → i < suc n → getD ids (p + i) 0 ≡ idOf (heldAt (m .slots) (p + i)))
+    → (i : ℕ) → i < n → getD ids (suc p + i) 0 ≡ idOf (heldAt (m .slots) (suc p + i))
+next m ids n p named i h =
+    let k : p + suc i ≡ suc p + i = omega arith in
+    rw k at (named (suc i) (omega arith))
 
-notices-without : (m : Memory) (q n p : ℕ) → q < n
-    → lostNotices (without q (framesFrom m p n)) ≡ noticesBut (m .slots) (p + q) p n
+notices-others : (m : Memory) (ids : List ℕ) (winner n p : ℕ) → ((i : ℕ) → i < n → getD ids (p + i) 0 ≡ idOf (heldAt (m .slots) (p + i)))
+    → ((i : ℕ) → i < n → p + i ≡ winner → ⊥) → lostNotices (framesFrom m p n) ≡ noticesBut ids winner p n
+unfolding noticesBut framesFrom frameAt lostNotices
+notices-others m ids winner zero p named o = refl
+notices-others m ids winner (suc n) p named o =
+    let x : eqb p winner ≡ false = ne-eqb p winner (λ e. o 0 (omega arith) (omega arith)) in
+    rw (
+      x,
+      rw add-zero at (named 0 (omega arith)),
+      notices-others m ids winner n (suc p) (next m ids n p named) (λ i h e. o (suc i) (omega arith) (omega arith)),
+    )
+
+notices-without : (m : Memory) (ids : List ℕ) (q n p : ℕ) → ((i : ℕ) → i < n → getD ids (p + i) 0 ≡ idOf (heldAt (m .slots) (p + i)))
+    → q < n → lostNotices (without q (framesFrom m p n)) ≡ noticesBut ids (p + q) p n
 unfolding noticesBut framesFrom frameAt lostNotices without
-notices-without m q zero p h = absurd (omega arith)
-notices-without m zero (suc n) p h =
+notices-without m ids q zero p named h = absurd (omega arith)
+notices-without m ids zero (suc n) p named h =
     let x : eqb p (p + 0) ≡ true = eq-eqb p (p + 0) (omega arith) in
-    rw x (notices-others m (p + 0) n (suc p) (λ i h e. omega arith))
-notices-without m (suc q) (suc n) p h =
+    rw x (notices-others m ids (p + 0) n (suc p) (next m ids n p named) (λ i h e. omega arith))
+notices-without m ids (suc q) (suc n) p named h =
     let x : eqb p (p + suc q) ≡ false = ne-eqb p (p + suc q) (λ e. omega arith) in
     let s : suc p + q ≡ p + suc q = omega arith in
-    let r = rw s at (notices-without m q n (suc p) (omega arith)) in
-    rw (x, r)
+    let r = rw s at (notices-without m ids q n (suc p) (next m ids n p named) (omega arith)) in
+    rw (x, rw add-zero at (named 0 (omega arith)), r)
 
-notices-view : (m : Memory) (j owner position : ℕ) → position < 4 → entryAt m j .pending ≤ 4
+notices-view : (m : Memory) (ids : List ℕ) (j owner position : ℕ) → position < 4 → entryAt m j .pending ≤ 4
     → (j ≡ owner → position < entryAt m j .pending)
+    → ((q : ℕ) → q < entryAt m j .pending → getD ids (4 * j + q) 0 ≡ idOf (heldAt (m .slots) (4 * j + q)))
     → lostNotices (told (pendingAt m owner position) j (nodeView m j))
-    ≡ noticesBut (m .slots) (4 * owner + position) (4 * j) (discarded (entryAt m j))
+    ≡ noticesBut ids (4 * owner + position) (4 * j) (discarded (entryAt m j))
 unfolding told drops plainRound.losers nodeView noticesBut lostNotices
-notices-view m j owner position h few o = go (discards (entryAt m j)) (eqb j owner) refl
+notices-view m ids j owner position h few o named = go (discards (entryAt m j)) (eqb j owner) refl
   where
     frames : List plain.Frame
     frames = framesFrom m (4 * j) (entryAt m j .pending)
 
     go : (t u : Bool) → eqb j owner ≡ u
         → lostNotices (cond t (cond u (without position frames) frames) [])
-        ≡ noticesBut (m .slots) (4 * owner + position) (4 * j) (cond t (entryAt m j .pending) 0)
+        ≡ noticesBut ids (4 * owner + position) (4 * j) (cond t (entryAt m j .pending) 0)
     go false u q = refl
     go true true q =
         let e = eqb-true j owner q in
-        rw (← e) (notices-without m position (entryAt m j .pending) (4 * j) (o e))
+        rw (← e) (notices-without m ids position (entryAt m j .pending) (4 * j) named (o e))
     go true false q =
         let n = eqb-false j owner q in
-        notices-others m (4 * owner + position) (entryAt m j .pending) (4 * j) (λ i l e. n (omega arith))
+        notices-others m ids (4 * owner + position) (entryAt m j .pending) (4 * j) named (λ i l e. n (omega arith))
 
 -- ---- the news
 
@@ -88,12 +104,16 @@ news-view (Injected code detector) m j owner position = refl
 -- ---- all of it, where the state is valid and the winner is pending
 
 module _ (s : State) (a : List Slot) (payload queues : List ℕ) (e : Injection) (owner position : ℕ)
-    (sized : Sized (held s a payload queues)) (v : validState s a ≡ true) (c : hasLegalCode e ≡ true) (w : PendingAt s owner position) where
+    (sized : Sized (held s a payload queues)) (v : validState s a ≡ true) (c : hasLegalCode e ≡ true) (w : PendingAt s owner position)
+    (ids : List ℕ) (named : ids ≡ map (λ (x : Slot). x .id) a) where
   abbrev m : Memory
   m = held s a payload queues
 
+  abbrev op : Operation
+  op = heldAt a (4 * owner + position)
+
   abbrev size : ℕ
-  size = lengthOf (heldAt a (4 * owner + position))
+  size = lengthOf op
 
   low : position < 4
   low = omega (arith, node-at s a v owner (w .0) .few, w .1)
@@ -117,12 +137,12 @@ module _ (s : State) (a : List Slot) (payload queues : List ℕ) (e : Injection)
 
   pub owed-is : (j : ℕ) → j < s .count
       → owed (injectionOf e) (pendingAt m owner position) j (nodeView m j)
-      ≡ owedTo e (nodeState s j) j owner position a (dataAtSlot m (4 * owner + position))
+      ≡ owedTo e (nodeState s j) j owner position op ids (dataAtSlot m (4 * owner + position))
   unfolding owed owedTo
   owed-is j h =
-      rw (news-view e m j owner position, notices-view m j owner position low (node-at s a v j h .few) (own-low j))
+      rw (news-view e m j owner position, notices-view m ids j owner position low (node-at s a v j h .few) (own-low j) (id-at s a v ids named j h))
 
-  pub data-whole : length (dataAtSlot m (4 * owner + position)) ≡ dataLength (heldAt a (4 * owner + position))
+  data-whole : length (dataAtSlot m (4 * owner + position)) ≡ dataLength (heldAt a (4 * owner + position))
   data-whole =
       let o = number-few owner (w .0) in
       let f = node-at s a v owner (w .0) .frames position (w .1) in
@@ -130,17 +150,16 @@ module _ (s : State) (a : List Slot) (payload queues : List ℕ) (e : Injection)
       (omega (arith, sized .payload, f .short, low))
 
   pub owed-size : (j : ℕ) → j < s .count
-      → length (owedTo e (nodeState s j) j owner position a (dataAtSlot m (4 * owner + position)))
+      → length (owedTo e (nodeState s j) j owner position op ids (dataAtSlot m (4 * owner + position)))
       ≡ owedLength e (nodeState s j) (eqb j owner) size
-  owed-size j h =
-      let n = node-at s a v j h in
-      owed-length-is e (nodeState s j) j owner position a (dataAtSlot m (4 * owner + position)) size
-      (node-at s a v owner (w .0) .frames position (w .1)) c data-whole refl low (n .few) (own-low j) (node-frames n)
+  owed-size =
+      owed-length-is e op (dataAtSlot m (4 * owner + position)) size (tellable s a v ids named) w
+      (node-at s a v owner (w .0) .frames position (w .1)) c data-whole refl
 
   -- in the model's words
   owed-at : (j : ℕ) → j < s .count
       → owedAt (injectionOf e) (pendingAt m owner position) m j
-      ≡ owedTo e (nodeState s j) j owner position a (dataAtSlot m (4 * owner + position))
+      ≡ owedTo e (nodeState s j) j owner position op ids (dataAtSlot m (4 * owner + position))
   owed-at j h =
       owed-view m sized j (number-few j h) (node-fits j h) (node-tidy j h) (pendingAt m owner position) (node-placed j) (injectionOf e)
       ∙ owed-is j h

@@ -1,14 +1,15 @@
 -- What a valid state says of each attached node: its fill, and its frames, of which everything can be written.
 -- Assumes nothing.
 use mathlib.Core.Path.{_≡_, refl}
-use mathlib.Core.Bool.{Bool, true, false, cond, _&&_}
+use mathlib.Core.Bool.{Bool, true, false, cond}
 use mathlib.Core.List.{List, []}
-use Prim.Native.Nat.{ℕ, zero, suc, _+_, _-_, _*_, _≤_, _<_}
+use Prim.Native.Nat.{ℕ, zero, suc, _+_, _*_, _≤_, _<_}
 use native.Mathlib.Omega.{arith}
 use native.Mathlib.Nat.{add-zero}
 use lib.Dec.{leb, eqb}
 use lib.ListN.{getD}
 use borrow.Author.Tests.{leb-true, eqb-true}
+use Rattle.operation.specs.Kinds.{idOf}
 use Rattle.operation.specs.Rules.{maxId, rules, legal}
 use Rattle.operation.specs.declared.Operation.the-variants.{CanTransmit, FdTransmit, XlTransmit}
 use Rattle.operation.proofs.Tests.{false-is-true, both, passed}
@@ -22,7 +23,7 @@ use Rattle.bus_state.specs.declared.State.{State}
 use Rattle.bus_model.proofs.Lawful.{max-id, fd-short}
 use Rattle.bus_model.proofs.Validity.{slot-is, valid-count, valid-node-at}
 use Rattle.arbitration.specs.Winner.{heldAt}
-use Rattle.arbitration.specs.Owed.{Writable, Frames, PendingAt, own}
+use Rattle.arbitration.specs.Owed.{Writable, own}
 
 -- ---- a frame that meets the content rules
 
@@ -67,6 +68,22 @@ slot-writable s = go (eqb (s .kind) 0x10) (eqb (s .kind) 0x11) (eqb (s .kind) 0x
     go false false true l = xl-writable _ _ _ _ _ _ _ l
     go false false false l = false-is-true l
 
+-- whose ID stands in the slot
+slot-named : (s : Slot) → legalContent (contentOf s) ≡ true → s .id ≡ idOf (heldIn (contentOf s))
+unfolding contentOf
+slot-named s = go (eqb (s .kind) 0x10) (eqb (s .kind) 0x11) (eqb (s .kind) 0x12)
+  where
+    go : (a b c : Bool)
+        → let x : Content =
+        cond a (Transmit (CanTransmit (s .id) (s .first) (s .second) (s .length)))
+        (cond b (Transmit (FdTransmit (s .id) (s .first) (s .second) (s .third) (s .length)))
+        (cond c (Transmit (XlTransmit (s .id) (s .first) (s .second) (s .third) (s .fourth) (s .af) (s .length))) Free)) in
+        legalContent x ≡ true → s .id ≡ idOf (heldIn x)
+    go true b c l = refl
+    go false true c l = refl
+    go false false true l = refl
+    go false false false l = false-is-true l
+
 -- ---- a node's frames
 
 slots-at : (j now : ℕ) (a : List Slot) (n p low : ℕ) → validSlots n p j low now a ≡ true → (i : ℕ) → i < n
@@ -86,6 +103,7 @@ pub record AttachedNode (s : State) (a : List Slot) (j : ℕ) : Type 0 where
   pub few : nodeState s j .pending ≤ 4
   pub fill : nodeState s j .fill ≤ 4_096
   pub frames : (q : ℕ) → q < nodeState s j .pending → Writable (heldAt a (4 * j + q))
+  pub named : (q : ℕ) → q < nodeState s j .pending → getD a (4 * j + q) freeSlot .id ≡ idOf (heldAt a (4 * j + q))
   pub past : (q : ℕ) → q < nodeState s j .pending → getD a (4 * j + q) freeSlot .accepted ≤ s .round
   pub owned : (q : ℕ) → q < nodeState s j .pending → getD a (4 * j + q) freeSlot .owner ≡ j
 
@@ -101,20 +119,10 @@ module _ (s : State) (a : List Slot) (v : validState s a ≡ true) where
         few = n .entry .few;
         fill = n .entry .fill;
         frames = λ q l. slot-writable (getD a (4 * j + q) freeSlot) (f q l .0);
+        named = λ q l. slot-named (getD a (4 * j + q) freeSlot) (f q l .0);
         past = λ q l. f q l .1;
         owned = λ q l. f q l .2;
       }
-
-  -- the numbers of a pending frame are small
-  pub place-small : (owner position : ℕ) → PendingAt s owner position
-      → (owner < 8) × (position < nodeState s owner .pending) × (nodeState s owner .pending ≤ 4)
-  place-small owner position w = (omega (arith, count-few, w .0), w .1, node-at owner (w .0) .few)
-
--- its slots from the first to the last in use
-pub node-frames : {s : State} {a : List Slot} {j : ℕ} → AttachedNode s a j → Frames a (4 * j) (4 * j + nodeState s j .pending)
-node-frames {s} {a} {j} n p l u =
-    let q : 4 * j + (p - 4 * j) ≡ p = omega arith in
-    rw q at (n .frames (p - 4 * j) (omega arith))
 
 -- the owner of a pending frame has one to remove
 pub own-pending : (s : State) (j owner : ℕ) → 1 ≤ nodeState s owner .pending → own (eqb j owner) ≤ nodeState s j .pending

@@ -1,9 +1,9 @@
 -- The memory after a round, part by part: the entries and the queues node by node, the slots and the payload without the winner.
 -- The model removes the winner at its owner's turn; what a node is owed is the same before and after other nodes' turns.
 -- Assumes nothing.
-use mathlib.Core.Path.{_≡_, refl, ap, _∙_}
+use mathlib.Core.Path.{_≡_, refl, sym, ap, _∙_}
 use mathlib.Core.Bool.{Bool, true, false, cond}
-use mathlib.Core.List.{List}
+use mathlib.Core.List.{List, map}
 use Prim.Native.Nat.{ℕ, zero, suc, _+_, _-_, _*_, _≤_, _<_}
 use native.Mathlib.Omega.{arith}
 use native.Mathlib.Nat.{sub-zero}
@@ -12,6 +12,7 @@ use lib.ListN.{length}
 use lib.Seq.{set-getD, set-set}
 use borrow.Author.Tests.{eqb-true, eqb-false, ne-eqb}
 use Rattle.operation.specs.Format.{lengthOf}
+use Rattle.operation.specs.declared.Operation.{Operation}
 use Rattle.buffers.specs.Parts.{over}
 use Rattle.slots.specs.Slots.{setBlock}
 use Rattle.slots.specs.declared.Slot.{Slot}
@@ -30,12 +31,14 @@ use Rattle.bus_model.proofs.Writes.{Same, same-refl, same-trans, entry-own}
 use Rattle.bus_model.proofs.Views.{Fits, same-fits, same-view}
 use Rattle.bus_model.proofs.Touched.{Touched, same-tidy}
 use Rattle.bus_model.proofs.Settle.{owed-view, settle-touched}
+use Rattle.outcome.specs.Outcome.{blockAt}
 use Rattle.arbitration.specs.declared.Injection.{Injection}
 use Rattle.arbitration.specs.Injections.{injectionOf, hasLegalCode}
 use Rattle.arbitration.specs.Winner.{heldAt}
 use Rattle.arbitration.specs.Owed.{PendingAt, discards, own, stayCount, owedTo, roomFrom}
 use Rattle.arbitration.specs.After.{entryAfter, entriesAfter, stateAfter, queuesAfter, blockWithout, payloadWithout}
 use Rattle.arbitration.proofs.Attached.{node-at}
+use Rattle.arbitration.proofs.Laid.{block-slot}
 use Rattle.arbitration.proofs.Rooms.{room-at}
 use Rattle.arbitration.proofs.Removed.{slotsDown, payloadDown, down-is, payload-down, slots-down}
 use Rattle.arbitration.proofs.Agrees.{number-few, node-fits, node-tidy, node-placed, owed-is, owed-size}
@@ -132,12 +135,16 @@ settle-step e w x j h =
 
 module _ (s : State) (a : List Slot) (payload queues : List ℕ) (e : Injection) (owner position : ℕ)
     (sized : Sized (held s a payload queues)) (v : validState s a ≡ true) (c : hasLegalCode e ≡ true) (w : PendingAt s owner position)
+    (ids : List ℕ) (named : ids ≡ map (λ (x : Slot). x .id) a)
     (room : roomFrom e (s .nodes) owner (lengthOf (heldAt a (4 * owner + position))) 0 (s .count) ≡ true) where
   abbrev m : Memory
   m = held s a payload queues
 
+  abbrev op : Operation
+  op = heldAt a (4 * owner + position)
+
   abbrev size : ℕ
-  size = lengthOf (heldAt a (4 * owner + position))
+  size = lengthOf op
 
   abbrev bytes : List ℕ
   bytes = dataAtSlot m (4 * owner + position)
@@ -164,44 +171,44 @@ module _ (s : State) (a : List Slot) (payload queues : List ℕ) (e : Injection)
 
   module _ (j : ℕ) (h : j < s .count) (x : Memory) (b : Before j x) where
     at-fits : Fits m j
-    at-fits = node-fits s a payload queues e owner position sized v c w j h
+    at-fits = node-fits s a payload queues e owner position sized v c w ids named j h
 
     at-placed : eqb j owner ≡ true → position < entryAt x j .pending
-    at-placed q = rw (b .same j (omega arith) .entry) (node-placed s a payload queues e owner position sized v c w j q)
+    at-placed q = rw (b .same j (omega arith) .entry) (node-placed s a payload queues e owner position sized v c w ids named j q)
 
-    at-owed : owedAt (injectionOf e) winner x j ≡ owedTo e (nodeState s j) j owner position a bytes
+    at-owed : owedAt (injectionOf e) winner x j ≡ owedTo e (nodeState s j) j owner position op ids bytes
     at-owed =
         let q = b .same j (omega arith) in
-        owed-view x (b .lengths) j (number-few s a payload queues e owner position sized v c w j h) (same-fits q at-fits)
-        (same-tidy q at-fits (node-tidy s a payload queues e owner position sized v c w j h)) winner at-placed (injectionOf e)
+        owed-view x (b .lengths) j (number-few s a payload queues e owner position sized v c w ids named j h) (same-fits q at-fits)
+        (same-tidy q at-fits (node-tidy s a payload queues e owner position sized v c w ids named j h)) winner at-placed (injectionOf e)
         ∙ ap (owed (injectionOf e) winner j) (same-view q at-fits)
-        ∙ owed-is s a payload queues e owner position sized v c w j h
+        ∙ owed-is s a payload queues e owner position sized v c w ids named j h
 
     at-room : entryAt x j .fill + length (owed (injectionOf e) winner j (nodeView x j)) ≤ 4_096
     at-room =
         let q = b .same j (omega arith) in
-        let k = owed-is s a payload queues e owner position sized v c w j h in
-        let n = owed-size s a payload queues e owner position sized v c w j h in
+        let k = owed-is s a payload queues e owner position sized v c w ids named j h in
+        let n = owed-size s a payload queues e owner position sized v c w ids named j h in
         rw (q .entry, same-view q at-fits, k, n) (room-at e (s .nodes) owner size (s .count) room j h)
 
     at-turn : turn x j
         ≡ held (withEntry (x .state) j (entryAfter e (nodeState s j) (eqb j owner) size))
         (cond (eqb j owner) (slotsDown (x .slots) (4 * j + position) (nodeState s j .pending - 1 - position)) (x .slots))
         (cond (eqb j owner) (payloadDown (x .slots) (x .payload) (4 * j + position) (nodeState s j .pending - 1 - position)) (x .payload))
-        (over (x .queues) (4_096 * j + nodeState s j .fill) (owedTo e (nodeState s j) j owner position a bytes))
+        (over (x .queues) (4_096 * j + nodeState s j .fill) (owedTo e (nodeState s j) j owner position op ids bytes))
     unfolding entryAfter
     at-turn =
         let q = b .same j (omega arith) in
-        let l : j < length (x .state .nodes) = omega (arith, b .lengths .nodes, number-few s a payload queues e owner position sized v c w j h) in
-        let n = owed-size s a payload queues e owner position sized v c w j h in
+        let l : j < length (x .state .nodes) = omega (arith, b .lengths .nodes, number-few s a payload queues e owner position sized v c w ids named j h) in
+        let n = owed-size s a payload queues e owner position sized v c w ids named j h in
         settle-step (injectionOf e) winner x j l ∙ rw (at-owed, n, q .entry)
 
     -- its turn touches no other node
     at-touched : Touched x (turn x j) j (plain.settle (injectionOf e) winner j (nodeView x j))
     at-touched =
         let q = b .same j (omega arith) in
-        settle-touched x (b .lengths) j (number-few s a payload queues e owner position sized v c w j h) (same-fits q at-fits)
-        (same-tidy q at-fits (node-tidy s a payload queues e owner position sized v c w j h)) winner at-placed (injectionOf e) at-room
+        settle-touched x (b .lengths) j (number-few s a payload queues e owner position sized v c w ids named j h) (same-fits q at-fits)
+        (same-tidy q at-fits (node-tidy s a payload queues e owner position sized v c w ids named j h)) winner at-placed (injectionOf e) at-room
 
     next : Before (suc j) (turn x j)
     next = record {
@@ -231,7 +238,7 @@ module _ (s : State) (a : List Slot) (payload queues : List ℕ) (e : Injection)
         round = x .state .round;
         nodes = entriesAfter e (s .nodes) owner size j n (x .state .nodes);
       })
-      slots rest (queuesAfter e (s .nodes) owner position a bytes j n (x .queues))
+      slots rest (queuesAfter e (s .nodes) owner position op ids bytes j n (x .queues))
   unfolding inTurn entriesAfter queuesAfter
   turns zero j x q b = let t = b .late (omega (arith, w .0)) in rw (t .0, t .1)
   turns (suc n) j x q b =
@@ -240,15 +247,15 @@ module _ (s : State) (a : List Slot) (payload queues : List ℕ) (e : Injection)
 
   -- the memory after the round
   pub after-is : afterRoundIn (injectionOf e) winner m
-      ≡ held (stateAfter e s owner size) (setBlock a (4 * owner) (blockWithout a (4 * owner) position (nodeState s owner .pending - 1)))
-      (payloadWithout a (4 * owner + position) (nodeState s owner .pending - 1 - position) payload)
-      (queuesAfter e (s .nodes) owner position a bytes 0 (s .count) queues)
+      ≡ held (stateAfter e s owner size) (setBlock a (4 * owner) (blockWithout (blockAt a (4 * owner)) position (nodeState s owner .pending - 1)))
+      (payloadWithout (blockAt a (4 * owner)) (4 * owner) position (nodeState s owner .pending - 1 - position) payload)
+      (queuesAfter e (s .nodes) owner position op ids bytes 0 (s .count) queues)
   unfolding afterRoundIn setRound stateAfter
   after-is =
-      let o = number-few s a payload queues e owner position sized v c w owner (w .0) in
+      let o = number-few s a payload queues e owner position sized v c w ids named owner (w .0) in
       let few = node-at s a v owner (w .0) .few in
       let k = slots-down a (4 * owner) position (nodeState s owner .pending - 1) (omega (arith, sized .slots)) (omega (arith, w .1)) (omega (arith, few, w .1)) in
-      let p = payload-down a (nodeState s owner .pending - 1 - position) a payload (4 * owner + position) (λ i l. refl) in
+      let p = payload-down (blockAt a (4 * owner)) (4 * owner) (nodeState s owner .pending - 1 - position) a payload position (λ i l u. sym (block-slot a (4 * owner) i u)) (omega (arith, few, w .1)) in
       ap (λ (x : Memory). setRound x (s .round + 1)) (turns (s .count) 0 m (omega arith) start)
       ∙ rw (k, p)
     where

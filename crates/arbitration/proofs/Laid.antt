@@ -1,6 +1,6 @@
 -- Four slots laid over a list: what stands where afterwards.
 -- Assumes nothing.
-use mathlib.Core.Path.{_≡_, _∙_}
+use mathlib.Core.Path.{_≡_, refl, _∙_}
 use mathlib.Core.List.{List}
 use Prim.Native.Nat.{ℕ, zero, suc, _+_, _≤_, _<_}
 use native.Mathlib.Omega.{arith}
@@ -9,6 +9,7 @@ use lib.ListN.{length, getD, set, length-set}
 use lib.Seq.{getD-set-same, getD-set-other}
 use Rattle.slots.specs.Slots.{freeSlot, setBlock}
 use Rattle.slots.specs.declared.Slot.{Slot}
+use Rattle.outcome.specs.Outcome.{blockAt}
 
 module _ (l : List Slot) (at : ℕ) (b : List Slot) where
   -- with the first one set, the first two, and the first three
@@ -64,3 +65,11 @@ module _ (l : List Slot) (at : ℕ) (b : List Slot) where
       ∙ length-set l at (getD b 0 freeSlot) in
       getD-set-same three (at + 3) (getD b 3 freeSlot) freeSlot (omega arith)
   block-own h (suc (suc (suc (suc q)))) u = absurd (omega arith)
+
+-- one of the four slots that stand from a position on
+pub block-slot : (a : List Slot) (at i : ℕ) → i < 4 → getD (blockAt a at) i freeSlot ≡ getD a (at + i) freeSlot
+block-slot a at zero h = rw add-zero
+block-slot a at (suc zero) h = refl
+block-slot a at (suc (suc zero)) h = refl
+block-slot a at (suc (suc (suc zero))) h = refl
+block-slot a at (suc (suc (suc (suc i)))) h = absurd (omega arith)

@@ -7,19 +7,19 @@ use Prim.Native.Nat.{ℕ, zero, suc, _+_, _-_, _*_, _≤_, _<_}
 use native.Mathlib.Omega.{arith}
 use lib.Dec.{eqb}
 use borrow.Author.Tests.{eqb-true, eqb-false, eq-eqb, ne-eqb}
-use lib.ListN.{length, length-append}
+use lib.ListN.{length, getD, length-append}
 use Rattle.operation.specs.Format.{dataLength, lengthOf, encode}
 use Rattle.operation.specs.Kinds.{idOf}
 use Rattle.operation.specs.declared.Operation.{Operation}
 use Rattle.operation.specs.declared.Operation.the-variants.{Confirm, ArbitrationLost}
 use Rattle.operation.proofs.Sizes.{encode-length}
-use Rattle.slots.specs.declared.Slot.{Slot}
+use Rattle.bus_state.specs.Memory.{nodeState}
+use Rattle.bus_state.specs.declared.State.{State}
 use Rattle.bus_state.specs.declared.NodeState.{NodeState}
 use Rattle.arbitration.specs.declared.Injection.{Injection}
 use Rattle.arbitration.specs.declared.Injection.the-variants.{NoError, Injected}
 use Rattle.arbitration.specs.Injections.{hasLegalCode}
-use Rattle.arbitration.specs.Winner.{heldAt}
-use Rattle.arbitration.specs.Owed.{Writable, isOff, toldCount, owedLength, discards, discarded, own, newsTo, noticesBut, owedTo, newsLength, Frames}
+use Rattle.arbitration.specs.Owed.{Writable, isOff, toldCount, owedLength, discards, discarded, own, newsTo, noticesBut, owedTo, newsLength, LegalIds, Tellable, PendingAt}
 use Rattle.arbitration.proofs.Told.{confirm-length, lost-length, error-length}
 
 pub news-short : (e : Injection) (mine off : Bool) (size : ℕ) → size ≤ 2_070 → newsLength e mine off size ≤ 2_070
@@ -68,56 +68,58 @@ news-length-is (Injected code detector) j owner false op bytes size w c b n = er
 -- ---- the notices
 
 -- twelve bytes a frame, where the winner is none of them
-notices-all : (a : List Slot) (winner n p : ℕ) → ((i : ℕ) → i < n → p + i ≡ winner → ⊥) → Frames a p (p + n)
-    → length (noticesBut a winner p n) ≡ 12 * n
+notices-all : (ids : List ℕ) (winner n p : ℕ) → ((i : ℕ) → i < n → p + i ≡ winner → ⊥) → LegalIds ids p (p + n)
+    → length (noticesBut ids winner p n) ≡ 12 * n
 unfolding noticesBut
-notices-all a winner zero p o f = refl
-notices-all a winner (suc n) p o f =
+notices-all ids winner zero p o f = refl
+notices-all ids winner (suc n) p o f =
     let x : eqb p winner ≡ false = ne-eqb p winner (λ e. o 0 (omega arith) (omega arith)) in
-    let k = lost-length (idOf (heldAt a p)) (f p (omega arith) (omega arith) .id) in
-    let l = notices-all a winner n (suc p) (λ i h e. o (suc i) (omega arith) (omega arith)) (λ q h g. f q (omega arith) (omega arith)) in
-    rw x (length-append (encode (ArbitrationLost (idOf (heldAt a p))) []) (noticesBut a winner (suc p) n) ∙ omega (arith, k, l))
+    let k = lost-length (getD ids p 0) (f p (omega arith) (omega arith)) in
+    let l = notices-all ids winner n (suc p) (λ i h e. o (suc i) (omega arith) (omega arith)) (λ q h g. f q (omega arith) (omega arith)) in
+    rw x (length-append (encode (ArbitrationLost (getD ids p 0)) []) (noticesBut ids winner (suc p) n) ∙ omega (arith, k, l))
 
 -- and one less, where it is one of them
-notices-one : (a : List Slot) (q n p : ℕ) → q < n → Frames a p (p + n) → length (noticesBut a (p + q) p n) ≡ 12 * (n - 1)
+notices-one : (ids : List ℕ) (q n p : ℕ) → q < n → LegalIds ids p (p + n) → length (noticesBut ids (p + q) p n) ≡ 12 * (n - 1)
 unfolding noticesBut
-notices-one a q zero p h f = absurd (omega arith)
-notices-one a zero (suc n) p h f =
+notices-one ids q zero p h f = absurd (omega arith)
+notices-one ids zero (suc n) p h f =
     let x : eqb p (p + 0) ≡ true = eq-eqb p (p + 0) (omega arith) in
-    let l = notices-all a (p + 0) n (suc p) (λ i h e. omega arith) (λ q h g. f q (omega arith) (omega arith)) in
+    let l = notices-all ids (p + 0) n (suc p) (λ i h e. omega arith) (λ q h g. f q (omega arith) (omega arith)) in
     rw x (l ∙ omega arith)
-notices-one a (suc q) (suc n) p h f =
+notices-one ids (suc q) (suc n) p h f =
     let x : eqb p (p + suc q) ≡ false = ne-eqb p (p + suc q) (λ e. omega arith) in
-    let k = lost-length (idOf (heldAt a p)) (f p (omega arith) (omega arith) .id) in
+    let k = lost-length (getD ids p 0) (f p (omega arith) (omega arith)) in
     let s : suc p + q ≡ p + suc q = omega arith in
-    let l = rw s at (notices-one a q n (suc p) (omega arith) (λ q h g. f q (omega arith) (omega arith))) in
+    let l = rw s at (notices-one ids q n (suc p) (omega arith) (λ q h g. f q (omega arith) (omega arith))) in
     rw x
-    (length-append (encode (ArbitrationLost (idOf (heldAt a p))) []) (noticesBut a (p + suc q) (suc p) n) ∙ omega (arith, k, l))
+    (length-append (encode (ArbitrationLost (getD ids p 0)) []) (noticesBut ids (p + suc q) (suc p) n) ∙ omega (arith, k, l))
 
-notices-told : (a : List Slot) (d : NodeState) (j owner position : ℕ) → position < 4 → d .pending ≤ 4
-    → (j ≡ owner → position < d .pending) → Frames a (4 * j) (4 * j + d .pending)
-    → length (noticesBut a (4 * owner + position) (4 * j) (discarded d)) ≡ 12 * toldCount d (eqb j owner)
+notices-told : (ids : List ℕ) (d : NodeState) (j owner position : ℕ) → position < 4 → d .pending ≤ 4
+    → (j ≡ owner → position < d .pending) → LegalIds ids (4 * j) (4 * j + d .pending)
+    → length (noticesBut ids (4 * owner + position) (4 * j) (discarded d)) ≡ 12 * toldCount d (eqb j owner)
 unfolding noticesBut
-notices-told a d j owner position h few o f = go (discards d) (eqb j owner) refl
+notices-told ids d j owner position h few o f = go (discards d) (eqb j owner) refl
   where
     go : (t u : Bool) → eqb j owner ≡ u
-        → length (noticesBut a (4 * owner + position) (4 * j) (cond t (d .pending) 0)) ≡ 12 * cond t (d .pending - own u) 0
+        → length (noticesBut ids (4 * owner + position) (4 * j) (cond t (d .pending) 0)) ≡ 12 * cond t (d .pending - own u) 0
     go false u q = refl
     go true true q =
         let e = eqb-true j owner q in
-        rw (← e) (notices-one a position (d .pending) (4 * j) (o e) f)
+        rw (← e) (notices-one ids position (d .pending) (4 * j) (o e) f)
     go true false q =
         let n = eqb-false j owner q in
-        notices-all a (4 * owner + position) (d .pending) (4 * j) (λ i l e. n (omega arith)) f ∙ omega arith
+        notices-all ids (4 * owner + position) (d .pending) (4 * j) (λ i l e. n (omega arith)) f ∙ omega arith
 
 -- all that a node is owed is as long as its number says
-pub owed-length-is : (e : Injection) (d : NodeState) (j owner position : ℕ) (a : List Slot) (bytes : List ℕ) (size : ℕ)
-    → Writable (heldAt a (4 * owner + position)) → hasLegalCode e ≡ true → length bytes ≡ dataLength (heldAt a (4 * owner + position))
-    → size ≡ lengthOf (heldAt a (4 * owner + position)) → position < 4 → d .pending ≤ 4 → (j ≡ owner → position < d .pending)
-    → Frames a (4 * j) (4 * j + d .pending)
-    → length (owedTo e d j owner position a bytes) ≡ owedLength e d (eqb j owner) size
+pub owed-length-is : {s : State} {owner position : ℕ} {ids : List ℕ} (e : Injection) (op : Operation) (bytes : List ℕ) (size : ℕ)
+    → Tellable s ids → PendingAt s owner position → Writable op → hasLegalCode e ≡ true → length bytes ≡ dataLength op
+    → size ≡ lengthOf op → (j : ℕ) → j < s .count
+    → length (owedTo e (nodeState s j) j owner position op ids bytes) ≡ owedLength e (nodeState s j) (eqb j owner) size
 unfolding owedTo owedLength
-owed-length-is e d j owner position a bytes size w c b n h few o f =
-    let op = heldAt a (4 * owner + position) in
-    length-append (newsTo e j owner (isOff d) op bytes) (noticesBut a (4 * owner + position) (4 * j) (discarded d))
-    ∙ rw (news-length-is e j owner (isOff d) op bytes size w c b n, notices-told a d j owner position h few o f)
+owed-length-is {s} {owner} {position} {ids} e op bytes size t w f c b n j h =
+    let d = nodeState s j in
+    length-append (newsTo e j owner (isOff d) op bytes) (noticesBut ids (4 * owner + position) (4 * j) (discarded d))
+    ∙ rw (
+      news-length-is e j owner (isOff d) op bytes size f c b n,
+      notices-told ids d j owner position (omega (arith, t .few owner (w .0), w .1)) (t .few j h) (λ q. rw q (w .1)) (t .lawful j h),
+    )

@@ -9,6 +9,7 @@ pub mod Wrong
 pub mod Settled
 pub mod Laid
 pub mod Places
+pub mod Given
 pub mod Agrees
 pub mod Removed
 pub mod Carried

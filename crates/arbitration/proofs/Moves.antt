@@ -1,4 +1,4 @@
--- The removal of the winner: its slots and its data, one at a time.
+-- The removal of the winner's data, one frame's at a time.
 -- Assumes nothing.
 use mathlib.Core.Path.{_≡_, ap}
 use mathlib.Core.List.{List}
@@ -12,22 +12,21 @@ use Rattle.slots.specs.declared.Slot.{Slot}
 use Rattle.arbitration.specs.Winner.{heldAt}
 use Rattle.arbitration.specs.After.{payloadWithout}
 
--- ---- the data
-
 -- one frame's data, and those after it
-pub data-next : (a : List Slot) (p last : ℕ) (payload : List ℕ) → p < last
-    → payloadWithout a p (last - p) payload
-    ≡ payloadWithout a (suc p) (last - suc p) (over payload (2_048 * p) (part (2_048 * suc p) (dataLength (heldAt a (suc p))) payload))
+pub data-next : (four : List Slot) (at q last : ℕ) (payload : List ℕ) → q < last
+    → payloadWithout four at q (last - q) payload
+    ≡ payloadWithout four at (suc q) (last - suc q)
+    (over payload (2_048 * (at + q)) (part (2_048 * suc (at + q)) (dataLength (heldAt four (suc q))) payload))
 unfolding payloadWithout
-data-next a p last payload h =
-    let k : last - p ≡ suc (last - suc p) = omega arith in
-    ap (λ (i : ℕ). payloadWithout a p i payload) k
+data-next four at q last payload h =
+    let k : last - q ≡ suc (last - suc q) = omega arith in
+    ap (λ (i : ℕ). payloadWithout four at q i payload) k
 
-pub data-end : (a : List Slot) (p last : ℕ) (payload : List ℕ) → last ≤ p → payloadWithout a p (last - p) payload ≡ payload
+pub data-end : (four : List Slot) (at q last : ℕ) (payload : List ℕ) → last ≤ q → payloadWithout four at q (last - q) payload ≡ payload
 unfolding payloadWithout
-data-end a p last payload h =
-    let k : last - p ≡ 0 = omega arith in
-    ap (λ (i : ℕ). payloadWithout a p i payload) k
+data-end four at q last payload h =
+    let k : last - q ≡ 0 = omega arith in
+    ap (λ (i : ℕ). payloadWithout four at q i payload) k
 
 -- a part laid over the bytes before it
 pub data-length-kept : (payload : List ℕ) (at from n : ℕ) → at + n ≤ from → from + n ≤ length payload

@@ -16,9 +16,10 @@ use Rattle.slots.specs.Slots.{freeSlot, contentOf, heldIn, setBlock}
 use Rattle.slots.specs.declared.Slot.{Slot}
 use Rattle.bus_state.specs.Memory.{Memory, held, slotAt, dataAtSlot}
 use Rattle.bus_model.specs.Primitives.{fillSlot, moveDown}
+use Rattle.outcome.specs.Outcome.{blockAt}
 use Rattle.arbitration.specs.Winner.{heldAt}
 use Rattle.arbitration.specs.After.{source, blockWithout, payloadWithout}
-use Rattle.arbitration.proofs.Laid.{length-block, block-other, block-own}
+use Rattle.arbitration.proofs.Laid.{length-block, block-other, block-own, block-slot}
 
 -- ---- the parts of what the model moves
 
@@ -39,17 +40,21 @@ down-is (suc n) x p = down-is n (fillSlot x p (slotAt x (suc p)) (dataAtSlot x (
 
 -- ---- the payload
 
-pub payload-down : (a : List Slot) (n : ℕ) (l : List Slot) (q : List ℕ) (p : ℕ)
-    → ((i : ℕ) → p < i → getD l i freeSlot ≡ getD a i freeSlot) → payloadDown l q p n ≡ payloadWithout a p n q
+pub payload-down : (four : List Slot) (at n : ℕ) (l : List Slot) (payload : List ℕ) (q : ℕ)
+    → ((i : ℕ) → q < i → i < 4 → getD l (at + i) freeSlot ≡ getD four i freeSlot) → q + n < 4
+    → payloadDown l payload (at + q) n ≡ payloadWithout four at q n payload
 unfolding payloadDown payloadWithout
-payload-down a zero l q p f = refl
-payload-down a (suc n) l q p f =
-    payload-down a n (set l p (getD l (suc p) freeSlot))
-    (over q (2_048 * p) (part (2_048 * suc p) (dataLength (heldAt l (suc p))) q)) (suc p)
-    (λ i h. getD-set-other l p i (getD l (suc p) freeSlot) freeSlot (λ e. omega arith) ∙ f i (omega arith))
+payload-down four at zero l payload q f h = refl
+payload-down four at (suc n) l payload q f h =
+    let k : suc (at + q) ≡ at + suc q = omega arith in
+    let x = getD l (at + suc q) freeSlot in
+    let y = f (suc q) (omega arith) (omega arith) in
+    rw k
+    (payload-down four at n (set l (at + q) x) (over payload (2_048 * (at + q)) (part (2_048 * (at + suc q)) (dataLength (heldIn (contentOf x))) payload))
+    (suc q) (λ i g u. getD-set-other l (at + q) (at + i) x freeSlot (λ e. omega arith) ∙ f i (omega arith) u) (omega arith)
     ∙ ap
-    (λ (x : Slot). payloadWithout a (suc p) n (over q (2_048 * p) (part (2_048 * suc p) (dataLength (heldIn (contentOf x))) q)))
-    (f (suc p) (omega arith))
+    (λ (z : Slot). payloadWithout four at (suc q) n (over payload (2_048 * (at + q)) (part (2_048 * (at + suc q)) (dataLength (heldIn (contentOf z))) payload)))
+    y)
 
 -- ---- the slots
 
@@ -84,13 +89,21 @@ down-own (suc n) l p (suc i) h g =
     (down-own n x (suc p) i (omega arith) (omega arith)
     ∙ getD-set-other l p (suc (suc p) + i) (getD l (suc p) freeSlot) freeSlot (λ q. omega arith))
 
-block-entry : (a : List Slot) (at position last q : ℕ) → q < 4
-    → getD (blockWithout a at position last) q freeSlot ≡ getD a (at + source position last q) freeSlot
-block-entry a at position last zero h = refl
-block-entry a at position last (suc zero) h = refl
-block-entry a at position last (suc (suc zero)) h = refl
-block-entry a at position last (suc (suc (suc zero))) h = refl
-block-entry a at position last (suc (suc (suc (suc q)))) h = absurd (omega arith)
+source-low : (position last q : ℕ) → q < 4 → last < 4 → source position last q < 4
+source-low position last q h g = go (leb position q) (ltb q last) refl
+  where
+    go : (t u : Bool) → ltb q last ≡ u → cond (t && u) (q + 1) q < 4
+    go true true e = omega (arith, ltb-true q last e)
+    go true false e = h
+    go false u e = h
+
+block-entry : (four : List Slot) (position last q : ℕ) → q < 4
+    → getD (blockWithout four position last) q freeSlot ≡ getD four (source position last q) freeSlot
+block-entry four position last zero h = refl
+block-entry four position last (suc zero) h = refl
+block-entry four position last (suc (suc zero)) h = refl
+block-entry four position last (suc (suc (suc zero))) h = refl
+block-entry four position last (suc (suc (suc (suc q)))) h = absurd (omega arith)
 
 module _ (a : List Slot) (at position last : ℕ) (h : at + 4 ≤ length a) (f : position ≤ last) (g : last < 4) where
   moved : List Slot
@@ -116,36 +129,37 @@ module _ (a : List Slot) (at position last : ℕ) (h : at + 4 ≤ length a) (f :
           let l = leb-false position q x in
           sym (down-other (last - position) a (at + position) (at + q) (λ i v e. omega arith))
 
-  each : (r : ℕ) → getD (setBlock a at (blockWithout a at position last)) r freeSlot ≡ getD moved r freeSlot
+  each : (r : ℕ) → getD (setBlock a at (blockWithout (blockAt a at) position last)) r freeSlot ≡ getD moved r freeSlot
   unfolding moved
   each r = go (leb at r) refl (ltb r (at + 4)) refl
     where
       outside : ((q : ℕ) → q < 4 → r ≡ at + q → ⊥)
-          → getD (setBlock a at (blockWithout a at position last)) r freeSlot
+          → getD (setBlock a at (blockWithout (blockAt a at) position last)) r freeSlot
           ≡ getD (slotsDown a (at + position) (last - position)) r freeSlot
       outside o =
-          block-other a at (blockWithout a at position last) r o
+          block-other a at (blockWithout (blockAt a at) position last) r o
           ∙ sym (down-other (last - position) a (at + position) r (λ i v e. o (position + i) (omega arith) (omega arith)))
 
       go : (t : Bool) → leb at r ≡ t → (u : Bool) → ltb r (at + 4) ≡ u
-          → getD (setBlock a at (blockWithout a at position last)) r freeSlot
+          → getD (setBlock a at (blockWithout (blockAt a at) position last)) r freeSlot
           ≡ getD (slotsDown a (at + position) (last - position)) r freeSlot
       go true x true y =
           let l = leb-true at r x in
           let k = ltb-true r (at + 4) y in
           let i : at + (r - at) ≡ r = omega arith in
-          let s : getD (setBlock a at (blockWithout a at position last)) (at + (r - at)) freeSlot ≡ getD (slotsDown a (at + position) (last - position)) (at + (r - at)) freeSlot =
-          block-own a at (blockWithout a at position last) h (r - at) (omega arith)
-          ∙ block-entry a at position last (r - at) (omega arith)
+          let s : getD (setBlock a at (blockWithout (blockAt a at) position last)) (at + (r - at)) freeSlot ≡ getD (slotsDown a (at + position) (last - position)) (at + (r - at)) freeSlot =
+          block-own a at (blockWithout (blockAt a at) position last) h (r - at) (omega arith)
+          ∙ block-entry (blockAt a at) position last (r - at) (omega arith)
+          ∙ block-slot a at (source position last (r - at)) (source-low position last (r - at) (omega arith) g)
           ∙ inside (r - at) (omega arith) in
           rw i at s
       go true x false y = let k = ltb-false r (at + 4) y in outside (λ q v e. omega arith)
       go false x u y = let l = leb-false at r x in outside (λ q v e. omega arith)
 
   -- the four slots laid over the list are the model's slots
-  pub slots-down : setBlock a at (blockWithout a at position last) ≡ slotsDown a (at + position) (last - position)
+  pub slots-down : setBlock a at (blockWithout (blockAt a at) position last) ≡ slotsDown a (at + position) (last - position)
   unfolding moved
   slots-down =
-      ext-getD freeSlot (setBlock a at (blockWithout a at position last)) (slotsDown a (at + position) (last - position))
-      (length-block a at (blockWithout a at position last) ∙ sym (length-down (last - position) a (at + position)))
+      ext-getD freeSlot (setBlock a at (blockWithout (blockAt a at) position last)) (slotsDown a (at + position) (last - position))
+      (length-block a at (blockWithout (blockAt a at) position last) ∙ sym (length-down (last - position) a (at + position)))
       (λ r l. each r)

@@ -3,16 +3,23 @@
 use mathlib.Core.Path.{_≡_, ap, _∙_}
 use mathlib.Core.Bool.{true, false, _&&_}
 use mathlib.Core.List.{List}
-use Prim.Native.Nat.{ℕ, zero, suc, _+_, _-_, _≤_, _<_}
+use Prim.Native.Nat.{ℕ, zero, suc, _+_, _-_, _*_, _≤_, _<_}
 use native.Mathlib.Omega.{arith}
 use native.Mathlib.Nat.{add-zero, zero-add}
 use lib.Dec.{leb, eqb}
+use lib.ListN.{length, length-append}
 use borrow.Author.Tests.{leb-true, le-leb, lt-leb}
+use Rattle.operation.specs.Format.{dataLength, lengthOf}
+use Rattle.operation.specs.declared.Operation.{Operation}
 use Rattle.operation.proofs.Tests.{both}
+use Rattle.bus_state.specs.Memory.{nodeState}
+use Rattle.bus_state.specs.declared.State.{State}
 use Rattle.bus_state.specs.declared.NodeState.{NodeState}
 use Rattle.arbitration.specs.declared.Injection.{Injection}
 use Rattle.arbitration.specs.Winner.{entryOf}
-use Rattle.arbitration.specs.Owed.{owedLength, roomFrom}
+use Rattle.arbitration.specs.Injections.{hasLegalCode}
+use Rattle.arbitration.specs.Owed.{Writable, Tellable, PendingAt, isOff, discarded, newsTo, noticesBut, owedTo, owedLength, roomFrom}
+use Rattle.arbitration.proofs.Lengths.{owed-length-is}
 
 module _ (e : Injection) (nodes : List NodeState) (owner size : ℕ) where
   -- what node j's queue holds after the round
@@ -50,3 +57,19 @@ module _ (e : Injection) (nodes : List NodeState) (owner size : ℕ) where
   -- what the test says of one node
   pub room-at : (n : ℕ) → roomFrom e nodes owner size 0 n ≡ true → (j : ℕ) → j < n → grown j ≤ 4_096
   room-at n q j h = rw zero-add at (room-from n 0 q j h)
+
+-- and of the bytes that it is owed
+pub owed-fits : {s : State} {owner position : ℕ} {ids : List ℕ} (e : Injection) (op : Operation) (bytes : List ℕ) (size : ℕ)
+    → Tellable s ids → PendingAt s owner position → Writable op → hasLegalCode e ≡ true → length bytes ≡ dataLength op
+    → size ≡ lengthOf op → roomFrom e (s .nodes) owner size 0 (s .count) ≡ true → (j : ℕ) → j < s .count
+    → let d : NodeState = nodeState s j in
+    d .fill
+    + (length (newsTo e j owner (isOff d) op bytes) + length (noticesBut ids (4 * owner + position) (4 * j) (discarded d)))
+    ≤ 4_096
+unfolding owedTo
+owed-fits {s} {owner} {position} {ids} e op bytes size t w f c b n r j h =
+    let d = nodeState s j in
+    let news = newsTo e j owner (isOff d) op bytes in
+    let told = noticesBut ids (4 * owner + position) (4 * j) (discarded d) in
+    let k = owed-length-is e op bytes size t w f c b n j h in
+    omega (arith, k, length-append news told, room-at e (s .nodes) owner size (s .count) r j h)

@@ -6,8 +6,8 @@ use Prim.Native.Nat.{ℕ, suc, _+_, _-_, _*_, _≤_, _<_}
 use native.Mathlib.Omega.{arith}
 use lib.Dec.{eqb}
 use lib.ListN.{set}
+use Rattle.operation.specs.declared.Operation.{Operation}
 use Rattle.buffers.specs.Parts.{over}
-use Rattle.slots.specs.declared.Slot.{Slot}
 use Rattle.bus_state.specs.declared.NodeState.{NodeState}
 use Rattle.arbitration.specs.declared.Injection.{Injection}
 use Rattle.arbitration.specs.Winner.{entryOf}
@@ -29,18 +29,18 @@ module _ (e : Injection) (nodes : List NodeState) (owner size : ℕ) where
       let k : n - j ≡ 0 = omega arith in
       ap (λ (i : ℕ). entriesAfter e nodes owner size j i l) k
 
-module _ (e : Injection) (nodes : List NodeState) (owner position : ℕ) (a : List Slot) (bytes : List ℕ) where
+module _ (e : Injection) (nodes : List NodeState) (owner position : ℕ) (op : Operation) (ids bytes : List ℕ) where
   pub queues-next : (j n : ℕ) (q : List ℕ) → j < n
-      → queuesAfter e nodes owner position a bytes j (n - j) q
-      ≡ queuesAfter e nodes owner position a bytes (suc j) (n - suc j)
-      (over q (4_096 * j + entryOf nodes j .fill) (owedTo e (entryOf nodes j) j owner position a bytes))
+      → queuesAfter e nodes owner position op ids bytes j (n - j) q
+      ≡ queuesAfter e nodes owner position op ids bytes (suc j) (n - suc j)
+      (over q (4_096 * j + entryOf nodes j .fill) (owedTo e (entryOf nodes j) j owner position op ids bytes))
   unfolding queuesAfter
   queues-next j n q h =
       let k : n - j ≡ suc (n - suc j) = omega arith in
-      ap (λ (i : ℕ). queuesAfter e nodes owner position a bytes j i q) k
+      ap (λ (i : ℕ). queuesAfter e nodes owner position op ids bytes j i q) k
 
-  pub queues-end : (j n : ℕ) (q : List ℕ) → n ≤ j → queuesAfter e nodes owner position a bytes j (n - j) q ≡ q
+  pub queues-end : (j n : ℕ) (q : List ℕ) → n ≤ j → queuesAfter e nodes owner position op ids bytes j (n - j) q ≡ q
   unfolding queuesAfter
   queues-end j n q h =
       let k : n - j ≡ 0 = omega arith in
-      ap (λ (i : ℕ). queuesAfter e nodes owner position a bytes j i q) k
+      ap (λ (i : ℕ). queuesAfter e nodes owner position op ids bytes j i q) k

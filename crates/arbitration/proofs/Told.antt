@@ -3,10 +3,10 @@
 use mathlib.Core.Path.{_≡_, refl, ap}
 use mathlib.Core.Bool.{Bool, true, false, cond}
 use mathlib.Core.List.{List, [], _++_}
-use Prim.Native.Nat.{ℕ, suc, _+_, _-_, _≤_, _<_}
+use Prim.Native.Nat.{ℕ, suc, _-_, _≤_, _<_}
 use native.Mathlib.Omega.{arith}
 use lib.Dec.{eqb}
-use lib.ListN.{length}
+use lib.ListN.{length, getD}
 use borrow.Author.Tests.{eq-eqb, ne-eqb, le-leb}
 use Rattle.operation.specs.Format.{encode}
 use Rattle.operation.specs.Kinds.{idOf}
@@ -16,11 +16,9 @@ use Rattle.operation.specs.declared.Operation.the-variants.{Confirm, Arbitratio
 use Rattle.operation.proofs.Sizes.{encode-length}
 use Rattle.operation.proofs.Tests.{false-is-true}
 use Rattle.bus_model.proofs.Lawful.{one-small}
-use Rattle.slots.specs.declared.Slot.{Slot}
 use Rattle.arbitration.specs.declared.Injection.{Injection}
 use Rattle.arbitration.specs.declared.Injection.the-variants.{NoError, Injected}
 use Rattle.arbitration.specs.Injections.{hasLegalCode}
-use Rattle.arbitration.specs.Winner.{heldAt}
 use Rattle.arbitration.specs.Owed.{own, flagAt, newsTo, noticeOf, noticesBut}
 
 -- ---- the operations meet their rules, and their lengths
@@ -98,15 +96,16 @@ module _ (j owner : ℕ) (off : Bool) (op : Operation) (bytes : List ℕ) where
 
 -- ---- the notices
 
-pub notices-next : (a : List Slot) (winner p end : ℕ) → p < end
-    → noticesBut a winner p (end - p) ≡ noticeOf (eqb p winner) (heldAt a p) ++ noticesBut a winner (suc p) (end - suc p)
-unfolding noticesBut
-notices-next a winner p end h =
-    let k : end - p ≡ suc (end - suc p) = omega arith in
-    ap (noticesBut a winner p) k
+module _ (ids : List ℕ) (winner p end : ℕ) where
+  pub notices-next : p < end
+      → noticesBut ids winner p (end - p) ≡ noticeOf (eqb p winner) (getD ids p 0) ++ noticesBut ids winner (suc p) (end - suc p)
+  unfolding noticesBut
+  notices-next h =
+      let k : end - p ≡ suc (end - suc p) = omega arith in
+      ap (noticesBut ids winner p) k
 
-pub notices-end : (a : List Slot) (winner p end : ℕ) → end ≤ p → noticesBut a winner p (end - p) ≡ []
-unfolding noticesBut
-notices-end a winner p end h =
-    let k : end - p ≡ 0 = omega arith in
-    ap (noticesBut a winner p) k
+  pub notices-end : end ≤ p → noticesBut ids winner p (end - p) ≡ []
+  unfolding noticesBut
+  notices-end h =
+      let k : end - p ≡ 0 = omega arith in
+      ap (noticesBut ids winner p) k

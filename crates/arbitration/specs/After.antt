@@ -7,6 +7,7 @@ use mathlib.Core.Bool.{Bool, cond, _&&_}
 use lib.Dec.{leb, ltb, eqb}
 use lib.ListN.{getD, set}
 use Rattle.operation.specs.Format.{dataLength}
+use Rattle.operation.specs.declared.Operation.{Operation}
 use Rattle.buffers.specs.Parts.{part, over}
 use Rattle.slots.specs.Slots.{freeSlot}
 use Rattle.slots.specs.declared.Slot.{Slot}
@@ -34,11 +35,11 @@ stateAfter e s owner size =
     record { count = s .count; round = s .round + 1; nodes = entriesAfter e (s .nodes) owner size 0 (s .count) (s .nodes) }
 
 -- the queues of n nodes from number j on, each with what its node is owed behind its fill
-unfoldable pub queuesAfter : Injection → List NodeState → ℕ → ℕ → List Slot → List ℕ → ℕ → ℕ → List ℕ → List ℕ
-queuesAfter e nodes owner position a bytes j zero q = q
-queuesAfter e nodes owner position a bytes j (suc n) q =
-    queuesAfter e nodes owner position a bytes (suc j) n
-    (over q (bytesPerQueue * j + entryOf nodes j .fill) (owedTo e (entryOf nodes j) j owner position a bytes))
+unfoldable pub queuesAfter : Injection → List NodeState → ℕ → ℕ → Operation → List ℕ → List ℕ → ℕ → ℕ → List ℕ → List ℕ
+queuesAfter e nodes owner position op ids bytes j zero q = q
+queuesAfter e nodes owner position op ids bytes j (suc n) q =
+    queuesAfter e nodes owner position op ids bytes (suc j) n
+    (over q (bytesPerQueue * j + entryOf nodes j .fill) (owedTo e (entryOf nodes j) j owner position op ids bytes))
 
 -- ---- without the winner
 
@@ -46,18 +47,18 @@ queuesAfter e nodes owner position a bytes j (suc n) q =
 abbrev pub source : ℕ → ℕ → ℕ → ℕ
 source position last i = cond (leb position i && ltb i last) (i + 1) i
 
--- the four slots from a position on, without the frame at a position of them
-abbrev pub blockWithout : List Slot → ℕ → ℕ → ℕ → List Slot
-blockWithout a at position last =
-    getD a (at + source position last 0) freeSlot
-    ∷ getD a (at + source position last 1) freeSlot
-    ∷ getD a (at + source position last 2) freeSlot
-    ∷ getD a (at + source position last 3) freeSlot
+-- four slots without the frame at a position of them
+abbrev pub blockWithout : List Slot → ℕ → ℕ → List Slot
+blockWithout four position last =
+    getD four (source position last 0) freeSlot
+    ∷ getD four (source position last 1) freeSlot
+    ∷ getD four (source position last 2) freeSlot
+    ∷ getD four (source position last 3) freeSlot
     ∷ []
 
--- the data of the frames in the n slots after p, moved down by one slot
-unfoldable pub payloadWithout : List Slot → ℕ → ℕ → List ℕ → List ℕ
-payloadWithout a p zero payload = payload
-payloadWithout a p (suc n) payload =
-    payloadWithout a (suc p) n
-    (over payload (bytesPerSlot * p) (part (bytesPerSlot * suc p) (dataLength (heldAt a (suc p))) payload))
+-- the data of the frames at the n positions after q of the four slots from a slot on, moved down by one slot
+unfoldable pub payloadWithout : List Slot → ℕ → ℕ → ℕ → List ℕ → List ℕ
+payloadWithout four at q zero payload = payload
+payloadWithout four at q (suc n) payload =
+    payloadWithout four at (suc q) n
+    (over payload (bytesPerSlot * (at + q)) (part (bytesPerSlot * suc (at + q)) (dataLength (heldAt four (suc q))) payload))

@@ -1,5 +1,6 @@
 pub mod Injections
 pub mod Winner
+pub mod Drawn
 pub mod Owed
 pub mod After
 pub mod Round

@@ -5,6 +5,7 @@ use mathlib.Core.Path.{_≡_}
 use mathlib.Core.List.{List, [], _++_}
 use mathlib.Core.Bool.{Bool, true, cond, _&&_}
 use lib.Dec.{leb, eqb}
+use lib.ListN.{getD}
 use Rattle.operation.specs.Format.{dataLength, encode}
 use Rattle.operation.specs.Kinds.{idOf}
 use Rattle.operation.specs.Rules.{legal, maxExtendedId}
@@ -31,6 +32,10 @@ pub record Writable (op : Operation) : Type 0 where
 -- the slots from one position to another hold such frames
 abbrev pub Frames : List Slot → ℕ → ℕ → Type 0
 Frames a from end = (p : ℕ) → from ≤ p → p < end → Writable (heldAt a p)
+
+-- the IDs from one position to another can be written
+abbrev pub LegalIds : List ℕ → ℕ → ℕ → Type 0
+LegalIds ids from end = (p : ℕ) → from ≤ p → p < end → getD ids p 0 ≤ maxExtendedId
 
 abbrev pub isOff : NodeState → Bool
 isOff d = eqb (d .status) busOff
@@ -61,6 +66,12 @@ stayCount d mine = cond (discards d) 0 (losers d mine)
 abbrev pub PendingAt : State → ℕ → ℕ → Type 0
 PendingAt s owner position = (owner < s .count) × (position < nodeState s owner .pending)
 
+-- every attached node can be told of its frames: they are at most four, and their IDs can be written
+pub record Tellable (s : State) (ids : List ℕ) : Type 0 where
+  pub count : s .count ≤ 8
+  pub few : (j : ℕ) → j < s .count → nodeState s j .pending ≤ slotsPerNode
+  pub lawful : (j : ℕ) → j < s .count → LegalIds ids (slotsPerNode * j) (slotsPerNode * j + nodeState s j .pending)
+
 -- ---- the bytes
 
 -- the Error Flag at node j
@@ -73,20 +84,20 @@ newsTo NoError j owner off op bytes = cond (eqb j owner) (encode (Confirm (idOf 
 newsTo (Injected code detector) j owner off op bytes =
     cond off [] (encode (BusError (idOf op) code (flagAt j detector) (own (eqb j owner))) [])
 
--- Arbitration Lost for a frame, unless it is the winner
-abbrev pub noticeOf : Bool → Operation → List ℕ
-noticeOf wins op = cond wins [] (encode (ArbitrationLost (idOf op)) [])
+-- Arbitration Lost for a frame by its ID, unless it is the winner
+abbrev pub noticeOf : Bool → ℕ → List ℕ
+noticeOf wins id = cond wins [] (encode (ArbitrationLost id) [])
 
--- the notices for the frames of n slots from p on
-unfoldable pub noticesBut : List Slot → ℕ → ℕ → ℕ → List ℕ
-noticesBut a winner p zero = []
-noticesBut a winner p (suc n) = noticeOf (eqb p winner) (heldAt a p) ++ noticesBut a winner (suc p) n
+-- the notices for the frames of n slots from p on, by the IDs in all slots
+unfoldable pub noticesBut : List ℕ → ℕ → ℕ → ℕ → List ℕ
+noticesBut ids winner p zero = []
+noticesBut ids winner p (suc n) = noticeOf (eqb p winner) (getD ids p 0) ++ noticesBut ids winner (suc p) n
 
--- all that node j is owed, by its entry; the winner's slot is the owner's at a position
-unfoldable pub owedTo : Injection → NodeState → ℕ → ℕ → ℕ → List Slot → List ℕ → List ℕ
-owedTo e d j owner position a bytes =
-    newsTo e j owner (isOff d) (heldAt a (slotsPerNode * owner + position)) bytes
-    ++ noticesBut a (slotsPerNode * owner + position) (slotsPerNode * j) (discarded d)
+-- all that node j is owed, by its entry; the winner is op, in the owner's slot at a position
+unfoldable pub owedTo : Injection → NodeState → ℕ → ℕ → ℕ → Operation → List ℕ → List ℕ → List ℕ
+owedTo e d j owner position op ids bytes =
+    newsTo e j owner (isOff d) op bytes
+    ++ noticesBut ids (slotsPerNode * owner + position) (slotsPerNode * j) (discarded d)
 
 -- ---- their number
 

@@ -12,7 +12,6 @@ use Rattle.plain_bus.specs.Order.{rank, lowerOr}
 use Rattle.bus_state.specs.Memory.{slotsPerNode, noNode}
 use Rattle.bus_state.specs.declared.State.{State}
 use Rattle.bus_state.specs.declared.NodeState.{NodeState}
-use Rattle.arbitration.specs.declared.Best.{Best}
 use Rattle.arbitration.specs.declared.Winner.{Winner}
 use Rattle.arbitration.specs.declared.Winner.the-variants.{Nobody, First}
 
@@ -30,17 +29,6 @@ unfoldable pub better : Winner → ℕ → ℕ → ℕ → Winner
 better Nobody rank owner position = First rank owner position
 better (First thanRank thanOwner thanPosition) rank owner position =
     cond (before rank owner position thanRank thanOwner thanPosition) (First rank owner position) (First thanRank thanOwner thanPosition)
-
--- the same where the frames come by node and position: only a lower rank goes before; `noRank` is above every rank
-abbrev pub noRank : ℕ
-noRank = 4_294_967_296
-
-unfoldable pub sooner : Best → ℕ → ℕ → ℕ → Best
-sooner best rank owner position =
-    cond (ltb rank (best .rank)) (record { rank = rank; owner = owner; position = position }) best
-
-unfoldable pub winnerOf : Best → Winner
-winnerOf best = cond (ltb (best .rank) noRank) (First (best .rank) (best .owner) (best .position)) Nobody
 
 -- the first of the best so far and n frames of node j from position q on
 unfoldable pub bestOf : List Slot → ℕ → ℕ → ℕ → Winner → Winner

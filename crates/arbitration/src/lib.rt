@@ -1,23 +1,24 @@
-// One round on a valid state: the winner is found, every queue is tested for what its node is owed, and only then bytes are written.
+// One round on a valid state, given its winner: every queue is tested for what its node is owed, and only then bytes are written.
 // This is for the bus crate above: what is required its caller must meet.
 ghost use mathlib.Core.Path.{_≡_};
 ghost use mathlib.Core.Bool.{true};
+ghost use mathlib.Core.List.{List, []};
 ghost use Prim.Native.Nat.{_+_, _-_, _*_, _≤_, _<_};
 ghost use lib.ListN.{length};
 ghost use Rattle.operation.specs.Format.{dataLength, lengthOf, encode};
-ghost use Rattle.operation.specs.Rules.{oneOf, errorCodes, legal};
+ghost use Rattle.operation.specs.Rules.{oneOf, errorCodes, legal, maxExtendedId};
 ghost use Rattle.buffers.specs.Parts.{over};
 ghost use Rattle.slots.specs.Slots.{contentOf, heldIn};
-ghost use Rattle.plain_bus.specs.Order.{rank, wins};
+ghost use Rattle.plain_bus.specs.Order.{wins};
 ghost use Rattle.plain_bus.specs.Round.{isErrored};
 ghost use Rattle.bus_state.specs.Memory.{nodeState, held, payloadBytes, queueBytes};
-ghost use Rattle.bus_state.specs.Valid.{validState};
 ghost use Rattle.bus_model.specs.Round.{pendingAt};
 ghost use Rattle.bus_model.specs.Calls.{arbitrateIn, rounded};
 ghost use Rattle.outcome.specs.Outcome.{endedBy, ended};
 ghost use Rattle.arbitration.specs.Injections.{injectionOf, injectionFrom, hasLegalCode, isWrong};
-ghost use Rattle.arbitration.specs.Winner.{heldAt, noRank, sooner, winnerOf, bestIn};
-ghost use Rattle.arbitration.specs.Owed.{Writable, Frames, PendingAt, isOff, discards, discarded, own, toldCount, stayCount, flagAt, newsTo, noticeOf, newsLength, owedLength, roomFrom};
+ghost use Rattle.arbitration.specs.Winner.{heldAt};
+ghost use Rattle.arbitration.specs.Drawn.{ownerOf, Drawn, DrawnAt};
+ghost use Rattle.arbitration.specs.Owed.{Writable, Frames, Tellable, PendingAt, isOff, discards, discarded, own, toldCount, stayCount, flagAt, newsTo, noticeOf, newsLength, owedLength, roomFrom};
 ghost use Rattle.arbitration.specs.After.{entryAfter, stateAfter, queuesAfter, source, blockWithout, payloadWithout};
 ghost use Rattle.arbitration.specs.Round.{carriedOut};
 use bus_state::NodeState;
@@ -85,7 +86,7 @@ fn is_errored(e: Injection) -> bool
 
 // ---- the winner
 
-// The first of the frames seen so far: what it is compared by, its node, and its position among that node's pending frames.
+// The first of some pending frames: what it is compared by, its node, and its position among that node's frames.
 pub enum Winner {
     Nobody,
     First {
@@ -95,74 +96,19 @@ pub enum Winner {
     },
 }
 
-// What a frame is compared by on the bus: the ID number.
-fn rank(s: Slot) -> u32
-    ensures { λ r. ⌜ r ≡ rank (heldIn (contentOf s)) ⌝ }
+// The first slot of the winner's node; 0 where there is no winner.
+fn first_slot(best: Winner) -> usize
+    requires { ⌜ ownerOf best < 8 ⌝ }
+    ensures { λ r. ⌜ r ≡ 4 * ownerOf best ⌝ }
 {
-    slots::id_of(s)
-}
-
-// The first of the frames seen so far. rank is NO_RANK, above every rank, where there is none yet.
-struct Best {
-    rank: u64,
-    owner: usize,
-    position: usize,
-}
-
-const NO_RANK: u64 = 4294967296;
-
-// The first of the best so far and one more frame. The frames come by node and position, so that an equal rank stays behind.
-fn sooner(best: Best, rank: u32, owner: usize, position: usize) -> Best
-    ensures { λ r. ⌜ (r ≡ sooner best rank owner position) × (rank < noRank) ⌝ }
-{
-    let new = rank as u64;
-    if new < best.rank {
-        return Best {
-            rank: new,
+    match best {
+        Winner::Nobody => 0,
+        Winner::First {
+            rank: _,
             owner,
-            position,
-        };
+            position: _,
+        } => 4 * owner,
     }
-    best
-}
-
-fn winner_of(best: Best) -> Winner
-    ensures { λ r. ⌜ r ≡ winnerOf best ⌝ }
-{
-    if best.rank < NO_RANK {
-        return Winner::First {
-            rank: best.rank as u32,
-            owner: best.owner,
-            position: best.position,
-        };
-    }
-    Winner::Nobody
-}
-
-// The first of all pending frames: node by node, and each node's from the first on.
-fn best_in(s: State, a: [Slot; 32]) -> Winner
-    requires { ⌜ validState s a ≡ true ⌝ }
-    ensures { λ r. ⌜ r ≡ bestIn s a ⌝ }
-{
-    let count = s.count as usize;
-    let nodes = s.nodes;
-    let mut best = Best {
-        rank: NO_RANK,
-        owner: 0,
-        position: 0,
-    };
-    let mut j = 0;
-    while j < count {
-        let d = nodes[j];
-        let pending = d.pending as usize;
-        let mut q = 0;
-        while q < pending {
-            best = sooner(best, rank(a[4 * j + q]), j, q);
-            q += 1;
-        }
-        j += 1;
-    }
-    winner_of(best)
 }
 
 // ---- the removal of the winner
@@ -179,28 +125,28 @@ fn source(position: usize, last: usize, i: usize) -> usize
 }
 
 // A node's four slots without the frame at a position; what stands behind the last pending one stays.
-fn block_without(a: [Slot; 32], at: usize, position: usize, last: usize) -> [Slot; 4]
-    requires { ⌜ (at + 4 ≤ 32) × (last < 4) ⌝ }
-    ensures { λ r. ⌜ r ≡ blockWithout a at position last ⌝ }
+fn block_without(four: [Slot; 4], position: usize, last: usize) -> [Slot; 4]
+    requires { ⌜ last < 4 ⌝ }
+    ensures { λ r. ⌜ r ≡ blockWithout four position last ⌝ }
 {
-    let first = a[at + source(position, last, 0)];
-    let second = a[at + source(position, last, 1)];
-    let third = a[at + source(position, last, 2)];
-    let fourth = a[at + source(position, last, 3)];
+    let first = four[source(position, last, 0)];
+    let second = four[source(position, last, 1)];
+    let third = four[source(position, last, 2)];
+    let fourth = four[source(position, last, 3)];
     [first, second, third, fourth]
 }
 
-// The data of the frames behind a slot, up to the last one's, move down by one slot.
-fn move_data(payload: &mut [u8], a: [Slot; 32], slot: usize, last: usize)
-    requires { ⌜ (slot ≤ last) × (last < 32) × (length (now payload) ≡ 65536) ⌝ }
-    requires { ⌜ Frames a slot (last + 1) ⌝ }
-    ensures { λ _. ⌜ now (payload .exit) ≡ payloadWithout a slot (last - slot) (now (payload .entry)) ⌝ }
+// The data of the frames behind a position of the four slots from a slot on, up to the last one's, move down by one slot.
+fn move_data(payload: &mut [u8], four: [Slot; 4], at: usize, position: usize, last: usize)
+    requires { ⌜ (position ≤ last) × (last < 4) × (at + 4 ≤ 32) × (length (now payload) ≡ 65536) ⌝ }
+    requires { ⌜ Frames four position (last + 1) ⌝ }
+    ensures { λ _. ⌜ now (payload .exit) ≡ payloadWithout four at position (last - position) (now (payload .entry)) ⌝ }
 {
-    let mut p = slot;
-    while p < last {
-        let n = operation::data_length(slots::held_in(a[p + 1])) as usize;
-        buffers::shift(payload, 2048 * p, 2048 * (p + 1), n);
-        p += 1;
+    let mut q = position;
+    while q < last {
+        let n = operation::data_length(slots::held_in(four[q + 1])) as usize;
+        buffers::shift(payload, 2048 * (at + q), 2048 * (at + q + 1), n);
+        q += 1;
     }
 }
 
@@ -314,6 +260,30 @@ fn put_operation(op: Operation, bytes: &[u8], buffer: &mut [u8], at: usize)
     encoder::write(op, bytes, &mut buffer[at..]);
 }
 
+// Lays a Confirm over a buffer from a position on.
+fn put_confirm(id: u32, buffer: &mut [u8], at: usize)
+    requires { ⌜ (legal (Operation.Confirm id) ≡ true) × (at + 12 ≤ length (now buffer)) ⌝ }
+    ensures { λ _. ⌜ now (buffer .exit) ≡ over (now (buffer .entry)) at (encode (Operation.Confirm id) []) ⌝ }
+{
+    encoder::write_confirm(id, b"", &mut buffer[at..]);
+}
+
+// Lays a Bus Error over a buffer from a position on.
+fn put_bus_error(id: u32, code: u8, flag: u8, sender: u8, buffer: &mut [u8], at: usize)
+    requires { ⌜ (legal (Operation.BusError id code flag sender) ≡ true) × (at + 15 ≤ length (now buffer)) ⌝ }
+    ensures { λ _. ⌜ now (buffer .exit) ≡ over (now (buffer .entry)) at (encode (Operation.BusError id code flag sender) []) ⌝ }
+{
+    encoder::write_bus_error(id, code, flag, sender, b"", &mut buffer[at..]);
+}
+
+// Lays an Arbitration Lost over a buffer from a position on.
+fn put_lost(id: u32, buffer: &mut [u8], at: usize)
+    requires { ⌜ (legal (Operation.ArbitrationLost id) ≡ true) × (at + 12 ≤ length (now buffer)) ⌝ }
+    ensures { λ _. ⌜ now (buffer .exit) ≡ over (now (buffer .entry)) at (encode (Operation.ArbitrationLost id) []) ⌝ }
+{
+    encoder::write_arbitration_lost(id, b"", &mut buffer[at..]);
+}
+
 // The Error Flag at a node: the primary one where the error is detected.
 fn flag_at(j: usize, detector: u32) -> u8
     ensures { λ r. ⌜ r ≡ flagAt j detector ⌝ }
@@ -343,14 +313,7 @@ fn put_news(
     match e {
         Injection::NoError => {
             if j == owner {
-                put_operation(
-                    Operation::Confirm {
-                        id: slots::id_of(winner),
-                    },
-                    b"",
-                    queues,
-                    at,
-                );
+                put_confirm(slots::id_of(winner), queues, at);
                 return;
             }
             if off {
@@ -362,14 +325,12 @@ fn put_news(
             if off {
                 return;
             }
-            put_operation(
-                Operation::BusError {
-                    id: slots::id_of(winner),
-                    error_code: code as u8,
-                    error_flag: flag_at(j, detector),
-                    is_sender: (j == owner) as u8,
-                },
-                b"",
+            let id = slots::id_of(winner);
+            put_bus_error(
+                id,
+                code as u8,
+                flag_at(j, detector),
+                (j == owner) as u8,
                 queues,
                 at,
             );
@@ -377,18 +338,16 @@ fn put_news(
     }
 }
 
-// Arbitration Lost for a frame, unless it is the winner; answers the place after it.
-fn put_notice(frame: Slot, wins: bool, queues: &mut [u8], at: usize) -> usize
-    requires { ⌜ Writable (heldIn (contentOf frame)) ⌝ }
-    requires { ⌜ at + length (noticeOf wins (heldIn (contentOf frame))) ≤ length (now queues) ⌝ }
-    ensures { λ r. ⌜ r ≡ at + length (noticeOf wins (heldIn (contentOf frame))) ⌝ }
-    ensures { λ _. ⌜ now (queues .exit) ≡ over (now (queues .entry)) at (noticeOf wins (heldIn (contentOf frame))) ⌝ }
+// Arbitration Lost for a frame by its ID, unless it is the winner; answers the place after it.
+fn put_notice(id: u32, wins: bool, queues: &mut [u8], at: usize) -> usize
+    requires { ⌜ (id ≤ maxExtendedId) × (at + length (noticeOf wins id) ≤ length (now queues)) ⌝ }
+    ensures { λ r. ⌜ r ≡ at + length (noticeOf wins id) ⌝ }
+    ensures { λ _. ⌜ now (queues .exit) ≡ over (now (queues .entry)) at (noticeOf wins id) ⌝ }
 {
     if wins {
         return at;
     }
-    let id = slots::id_of(frame);
-    put_operation(Operation::ArbitrationLost { id }, b"", queues, at);
+    put_lost(id, queues, at);
     at + 12
 }
 
@@ -434,21 +393,21 @@ fn tell_all(
     owner: usize,
     position: usize,
     size: usize,
-    a: [Slot; 32],
+    winner: Slot,
+    ids: [u32; 32],
     bytes: &[u8],
     queues: &mut [u8],
 ) -> State
-    requires { ⌜ (validState s a ≡ true) × (s .round < 4294967295) × (hasLegalCode e ≡ true) ⌝ }
+    requires { ⌜ (s .round < 4294967295) × (hasLegalCode e ≡ true) × Tellable s ids ⌝ }
     requires { ⌜ PendingAt s owner position ⌝ }
-    requires { ⌜ (length (now bytes) ≡ dataLength (heldAt a (4 * owner + position))) × (size ≡ lengthOf (heldAt a (4 * owner + position))) ⌝ }
+    requires { ⌜ Writable (heldIn (contentOf winner)) × (length (now bytes) ≡ dataLength (heldIn (contentOf winner))) × (size ≡ lengthOf (heldIn (contentOf winner))) ⌝ }
     requires { ⌜ (roomFrom e (s .nodes) owner size 0 (s .count) ≡ true) × (length (now queues) ≡ queueBytes) ⌝ }
     ensures { λ r. ⌜ r ≡ stateAfter e s owner size ⌝ }
-    ensures { λ _. ⌜ now (queues .exit) ≡ queuesAfter e (s .nodes) owner position a (now (bytes .entry)) 0 (s .count) (now (queues .entry)) ⌝ }
+    ensures { λ _. ⌜ now (queues .exit) ≡ queuesAfter e (s .nodes) owner position (heldIn (contentOf winner)) ids (now (bytes .entry)) 0 (s .count) (now (queues .entry)) ⌝ }
 {
     let count = s.count as usize;
     let nodes = s.nodes;
     let slot = 4 * owner + position;
-    let winner = a[slot];
     let mut after = s.nodes;
     let mut j = 0;
     while j < count {
@@ -457,7 +416,7 @@ fn tell_all(
         let mut p = 4 * j;
         let end = p + discarded(d) as usize;
         while p < end {
-            to = put_notice(a[p], p == slot, queues, to);
+            to = put_notice(ids[p], p == slot, queues, to);
             p += 1;
         }
         after[j] = entry_after(d, j == owner, e, size);
@@ -478,7 +437,8 @@ const LAST_ROUND: u32 = 4294967295;
 // Carries out a round that a frame won and that every queue has room for: the queues first, and then the frame is removed.
 fn carry_out(
     s: State,
-    a: [Slot; 32],
+    four: [Slot; 4],
+    ids: [u32; 32],
     payload: &mut [u8],
     queues: &mut [u8],
     e: Injection,
@@ -486,24 +446,33 @@ fn carry_out(
     position: usize,
     size: usize,
 ) -> Change
-    requires { ⌜ (validState s a ≡ true) × (s .round < 4294967295) × (hasLegalCode e ≡ true) ⌝ }
-    requires { ⌜ PendingAt s owner position ⌝ }
-    requires { ⌜ (size ≡ lengthOf (heldAt a (4 * owner + position))) × (roomFrom e (s .nodes) owner size 0 (s .count) ≡ true) ⌝ }
+    requires { ⌜ ((a : List Slot) × DrawnAt s a owner position four ids) ⌝ }
+    requires { ⌜ (s .round < 4294967295) × (hasLegalCode e ≡ true) ⌝ }
+    requires { ⌜ (size ≡ lengthOf (heldAt four position)) × (roomFrom e (s .nodes) owner size 0 (s .count) ≡ true) ⌝ }
     requires { ⌜ (length (now payload) ≡ payloadBytes) × (length (now queues) ≡ queueBytes) ⌝ }
-    ensures { λ r. ⌜ endedBy r a (now (payload .exit)) (now (queues .exit)) ≡ ended (carriedOut (held s a (now (payload .entry)) (now (queues .entry))) (injectionOf e) (pendingAt (held s a (now (payload .entry)) (now (queues .entry))) owner position)) ⌝ }
-    ensures { λ r. ⌜ r .at + 4 ≤ 32 ⌝ }
+    ensures { λ r. ⌜ ((a : List Slot) → DrawnAt s a owner position four ids → endedBy r a (now (payload .exit)) (now (queues .exit)) ≡ ended (carriedOut (held s a (now (payload .entry)) (now (queues .entry))) (injectionOf e) (pendingAt (held s a (now (payload .entry)) (now (queues .entry))) owner position))) ⌝ }
+    ensures { λ r. ⌜ r .at ≡ 4 * owner ⌝ }
 {
     let nodes = s.nodes;
     let d = nodes[owner];
     let at = 4 * owner;
-    let slot = at + position;
-    let winner = a[slot];
-    let from = 2048 * slot;
+    let winner = four[position];
+    let from = 2048 * (at + position);
     let to = from + operation::data_length(slots::held_in(winner)) as usize;
-    let state = tell_all(s, e, owner, position, size, a, &payload[from..to], queues);
+    let state = tell_all(
+        s,
+        e,
+        owner,
+        position,
+        size,
+        winner,
+        ids,
+        &payload[from..to],
+        queues,
+    );
     let last = d.pending as usize - 1;
-    move_data(payload, a, slot, at + last);
-    let block = block_without(a, at, position, last);
+    move_data(payload, four, at, position, last);
+    let block = block_without(four, position, last);
     let outcome = Outcome::Carried {
         sender: owner as u8,
         id: slots::id_of(winner),
@@ -521,47 +490,78 @@ fn carry_out(
 // A round that a frame won: refused where a queue is too full, or the round number at its largest.
 fn arbitrate(
     s: State,
-    a: [Slot; 32],
+    four: [Slot; 4],
+    ids: [u32; 32],
     payload: &mut [u8],
     queues: &mut [u8],
     e: Injection,
     owner: usize,
     position: usize,
 ) -> Change
-    requires { ⌜ (validState s a ≡ true) × (hasLegalCode e ≡ true) ⌝ }
-    requires { ⌜ PendingAt s owner position ⌝ }
+    requires { ⌜ ((a : List Slot) × DrawnAt s a owner position four ids) ⌝ }
+    requires { ⌜ hasLegalCode e ≡ true ⌝ }
     requires { ⌜ (length (now payload) ≡ payloadBytes) × (length (now queues) ≡ queueBytes) ⌝ }
-    ensures { λ r. ⌜ endedBy r a (now (payload .exit)) (now (queues .exit)) ≡ ended (arbitrateIn (held s a (now (payload .entry)) (now (queues .entry))) (injectionOf e) (wins (pendingAt (held s a (now (payload .entry)) (now (queues .entry))) owner position))) ⌝ }
-    ensures { λ r. ⌜ r .at + 4 ≤ 32 ⌝ }
+    ensures { λ r. ⌜ ((a : List Slot) → DrawnAt s a owner position four ids → endedBy r a (now (payload .exit)) (now (queues .exit)) ≡ ended (arbitrateIn (held s a (now (payload .entry)) (now (queues .entry))) (injectionOf e) (wins (pendingAt (held s a (now (payload .entry)) (now (queues .entry))) owner position)))) ⌝ }
+    ensures { λ r. ⌜ r .at ≡ 4 * owner ⌝ }
 {
-    let op = slots::held_in(a[4 * owner + position]);
+    let op = slots::held_in(four[position]);
     let size = operation::head_length(op) + operation::data_length(op) as usize;
     if !has_room(s, e, owner, size) {
-        return outcome::unchanged(Outcome::QueueFull, s, a);
+        return Change {
+            outcome: Outcome::QueueFull,
+            state: s,
+            at: 4 * owner,
+            block: four,
+        };
     }
     if LAST_ROUND <= s.round {
-        return outcome::unchanged(Outcome::RoundsUsedUp, s, a);
+        return Change {
+            outcome: Outcome::RoundsUsedUp,
+            state: s,
+            at: 4 * owner,
+            block: four,
+        };
     }
-    carry_out(s, a, payload, queues, e, owner, position, size)
+    carry_out(s, four, ids, payload, queues, e, owner, position, size)
 }
 
-// One round. The lent memory changes only where it is carried out.
-pub fn round(s: State, a: [Slot; 32], payload: &mut [u8], queues: &mut [u8], e: Injection) -> Change
-    requires { ⌜ validState s a ≡ true ⌝ }
+// One round, for the winner among some slots, its node's four of them, and every slot's ID. The lent memory changes only where it is
+// carried out.
+pub fn round(
+    s: State,
+    best: Winner,
+    four: [Slot; 4],
+    ids: [u32; 32],
+    payload: &mut [u8],
+    queues: &mut [u8],
+    e: Injection,
+) -> Change
+    requires { ⌜ ((a : List Slot) × Drawn s a best four ids) ⌝ }
     requires { ⌜ (length (now payload) ≡ payloadBytes) × (length (now queues) ≡ queueBytes) ⌝ }
-    ensures { λ r. ⌜ endedBy r a (now (payload .exit)) (now (queues .exit)) ≡ ended (rounded (held s a (now (payload .entry)) (now (queues .entry))) (injectionOf e)) ⌝ }
+    ensures { λ r. ⌜ ((a : List Slot) → Drawn s a best four ids → endedBy r a (now (payload .exit)) (now (queues .exit)) ≡ ended (rounded (held s a (now (payload .entry)) (now (queues .entry))) (injectionOf e))) ⌝ }
+    ensures { λ r. ⌜ r .at ≡ 4 * ownerOf best ⌝ }
     ensures { λ r. ⌜ r .at + 4 ≤ 32 ⌝ }
 {
+    let at = first_slot(best);
     if is_wrong(s, e) {
-        return outcome::unchanged(Outcome::BadInjection, s, a);
+        return Change {
+            outcome: Outcome::BadInjection,
+            state: s,
+            at,
+            block: four,
+        };
     }
-    let best = best_in(s, a);
     match best {
-        Winner::Nobody => outcome::unchanged(Outcome::Idle, s, a),
+        Winner::Nobody => Change {
+            outcome: Outcome::Idle,
+            state: s,
+            at,
+            block: four,
+        },
         Winner::First {
             rank: _,
             owner,
             position,
-        } => arbitrate(s, a, payload, queues, e, owner, position),
+        } => arbitrate(s, four, ids, payload, queues, e, owner, position),
     }
 }

@@ -8,26 +8,26 @@ use Rattle.slots.specs.Slots.{contentOf, heldIn}
 use borrow.Author.Needs.{needs}
 use denote.Ref.{now}
 use lib.Dec.{eqb}
-use mathlib.Core.Path.{refl, sym}
+use mathlib.Core.Path.{sym}
 use native.Mathlib.Omega.{arith}
 use Rattle.arbitration.proofs.put_news.Statement.{statement}
 use Rattle.arbitration.proofs.put_news.Tie as tie
 
-put-operation-requires : tie.Need-put-operation-requires
-put-operation-requires c κs =
-    let s = c .before .before .before .before .before .before .before .before in
+put-confirm-requires : tie.Need-put-confirm-requires
+put-confirm-requires c κs =
+    let s = c .before .before .before .before .before .before .before in
     let a = s .args in
-    let i : c .before .before .id-of .result ≤ 536_870_911 = rw (c .before .before .id-of .ensures) (s .pre .0 .id) in
-    let n = news-own (a .j) (a .owner) (a .off) (heldIn (contentOf (a .winner))) (now (a .bytes)) (c .before .before .before .before .enum-told .given .1) (c .before .before .before .if1 .taken) in
+    let i : c .before .id-of .result ≤ 536_870_911 = rw (c .before .id-of .ensures) (s .pre .0 .id) in
+    let n = news-own (a .j) (a .owner) (a .off) (heldIn (contentOf (a .winner))) (now (a .bytes)) (c .before .before .before .enum-told .given .1) (c .before .before .if1 .taken) in
     let l = confirm-length (idOf (heldIn (contentOf (a .winner)))) (s .pre .0 .id) in
-    ((confirm-lawful _ i, refl, omega arith), omega (arith, rw (n, l) at (s .pre .1 .1)))
+    (confirm-lawful _ i, omega (arith, rw (n, l) at (s .pre .1 .1)))
 
 returns : tie.Need-returns
 returns c =
-    let s = c .before .before .before .before .before .before .before .before .before .before .before in
+    let s = c .before .before .before .before .before .before .before .before .before .before in
     let a = s .args in
-    let n = news-own (a .j) (a .owner) (a .off) (heldIn (contentOf (a .winner))) (now (a .bytes)) (c .before .before .before .before .before .before .before .enum-told .given .1) (c .before .before .before .before .before .before .if1 .taken) in
-    rw (n, ← c .before .before .before .before .before .id-of .ensures) (c .before .before .put-operation .ensures)
+    let n = news-own (a .j) (a .owner) (a .off) (heldIn (contentOf (a .winner))) (now (a .bytes)) (c .before .before .before .before .before .before .enum-told .given .1) (c .before .before .before .before .before .if1 .taken) in
+    rw (n, ← c .before .before .before .before .id-of .ensures) (c .before .before .put-confirm .ensures)
 
 returns-2 : tie.Need-returns-2
 returns-2 c =
@@ -35,8 +35,8 @@ returns-2 c =
     let a = s .args in
     rw (news-none (a .j) (a .owner) (a .off) (heldIn (contentOf (a .winner))) (now (a .bytes)) (c .before .before .enum-told .given .1) (c .before .if1 .left) (c .if2 .taken)) (sym (over-none _ _))
 
-put-operation-requires-2 : tie.Need-put-operation-requires-2
-put-operation-requires-2 c κs =
+put-operation-requires : tie.Need-put-operation-requires
+put-operation-requires c κs =
     let s = c .before .before .before .before .before .before .before .before in
     let a = s .args in
     let n = news-other (a .j) (a .owner) (a .off) (heldIn (contentOf (a .winner))) (now (a .bytes)) (c .before .before .before .before .enum-told .given .1) (c .before .before .before .if1 .left) (c .before .before .if2 .left) in
@@ -49,41 +49,41 @@ returns-3 c =
     let a = s .args in
     rw (news-silent (a .j) (a .owner) (a .off) (heldIn (contentOf (a .winner))) (now (a .bytes)) (c .before .before .e .given .1) (c .if3 .taken)) (sym (over-none _ _))
 
-cast-t28 : tie.Need-cast-t28
-cast-t28 c =
+cast-put-bus-error : tie.Need-cast-put-bus-error
+cast-put-bus-error c =
     let s = c .before .before .before .before .before .before .before in
     omega (arith, code-small _ (legal-code (c .before .before .before .e .given .1) (s .pre .1 .0 .0)))
 
-put-operation-requires-3 : tie.Need-put-operation-requires-3
-put-operation-requires-3 c κs =
-    let s = c .before .before .before .before .before .before .before .before .before .before in
+put-bus-error-requires : tie.Need-put-bus-error-requires
+put-bus-error-requires c κs =
+    let s = c .before .before .before .before .before .before .before .before .before in
     let a = s .args in
-    let g = c .before .before .before .before .before .before .e .given in
+    let g = c .before .before .before .before .before .e .given in
     let k = legal-code (g .1) (s .pre .1 .0 .0) in
-    let i : c .before .before .before .id-of2 .result ≤ 536_870_911 = rw (c .before .before .before .id-of2 .ensures) (s .pre .0 .id) in
-    let n = news-error (a .j) (a .owner) (a .off) (heldIn (contentOf (a .winner))) (now (a .bytes)) (g .1) (c .before .before .before .before .if3 .left) in
+    let i : c .before .before .id-of2 .result ≤ 536_870_911 = rw (c .before .before .id-of2 .ensures) (s .pre .0 .id) in
+    let n = news-error (a .j) (a .owner) (a .off) (heldIn (contentOf (a .winner))) (now (a .bytes)) (g .1) (c .before .before .before .if3 .left) in
     let l = error-length (idOf (heldIn (contentOf (a .winner)))) _ (eqb (a .j) (g .0 .1 .0)) (eqb (a .j) (a .owner)) (s .pre .0 .id) k in
-    rw (c .before .before .flag-at .ensures, byte-own) ((error-lawful (c .before .before .before .id-of2 .result) (g .0 .0) (eqb (a .j) (g .0 .1 .0)) (eqb (a .j) (a .owner)) i k, refl, omega arith), omega (arith, rw (n, l) at (s .pre .1 .1)))
+    rw (c .before .flag-at .ensures, byte-own) (error-lawful (c .before .before .id-of2 .result) (g .0 .0) (eqb (a .j) (g .0 .1 .0)) (eqb (a .j) (a .owner)) i k, omega (arith, rw (n, l) at (s .pre .1 .1)))
 
 returns-4 : tie.Need-returns-4
 returns-4 c =
     let s = c .before .before .before .before .before .before .before .before .before .before .before in
     let a = s .args in
     let n = news-other (a .j) (a .owner) (a .off) (heldIn (contentOf (a .winner))) (now (a .bytes)) (c .before .before .before .before .before .before .before .enum-told .given .1) (c .before .before .before .before .before .before .if1 .left) (c .before .before .before .before .before .if2 .left) in
-    rw (n, ← c .before .before .before .before .held-in .ensures) (c .before .before .put-operation2 .ensures)
+    rw (n, ← c .before .before .before .before .held-in .ensures) (c .before .before .put-operation .ensures)
 
 returns-5 : tie.Need-returns-5
 returns-5 c =
-    let s = c .before .before .before .before .before .before .before .before .before .before .before .before .before in
+    let s = c .before .before .before .before .before .before .before .before .before .before .before .before in
     let a = s .args in
-    let g = c .before .before .before .before .before .before .before .before .before .e .given in
-    let n = news-error (a .j) (a .owner) (a .off) (heldIn (contentOf (a .winner))) (now (a .bytes)) (g .1) (c .before .before .before .before .before .before .before .if3 .left) in
-    rw (n, ← c .before .before .before .before .before .before .id-of2 .ensures, ← c .before .before .before .before .before .flag-at .ensures, ← byte-own) (c .before .before .put-operation3 .ensures)
+    let g = c .before .before .before .before .before .before .before .before .e .given in
+    let n = news-error (a .j) (a .owner) (a .off) (heldIn (contentOf (a .winner))) (now (a .bytes)) (g .1) (c .before .before .before .before .before .before .if3 .left) in
+    rw (n, ← c .before .before .before .before .before .id-of2 .ensures, ← c .before .before .before .before .flag-at .ensures, ← byte-own) (c .before .before .put-bus-error .ensures)
 
 pub put-news-spec : {M : Type 1} → statement M
 put-news-spec =
     tie.close
-    (tie.spec (λ c. search needs) (λ c κs. search needs) (λ c. search needs) put-operation-requires
-    (λ c. search needs) returns returns-2 (λ c κs. search needs) put-operation-requires-2 (λ c. search needs)
-    returns-3 (λ c κs. search needs) cast-t28 (λ c κs. search needs) (λ c. search needs) (λ c. search needs)
-    put-operation-requires-3 (λ c. search needs) returns-4 (λ c. search needs) returns-5)
+    (tie.spec (λ c. search needs) (λ c κs. search needs) put-confirm-requires (λ c. search needs) returns returns-2
+    (λ c κs. search needs) put-operation-requires (λ c. search needs) returns-3 (λ c κs. search needs)
+    cast-put-bus-error (λ c κs. search needs) (λ c. search needs) put-bus-error-requires (λ c. search needs) returns-4
+    (λ c. search needs) returns-5)

@@ -1,23 +1,23 @@
 -- The invariants: the entries and the queues from j on become what all do, and the queues' length is as it was; for one node, the
 -- notices from p on, laid from `to` on, give the same as all of its.
-use Prim.Native.Nat.{suc, _+_, _*_, _≤_, _-_}
+use Prim.Native.Nat.{suc, _+_, _*_, _≤_, _<_, _-_}
+use Rattle.arbitration.proofs.Attached.{own-pending}
 use Rattle.arbitration.proofs.Bytes.{over-over, over-none, in-two}
-use Rattle.arbitration.proofs.Lengths.{discarded-few, owed-length-is}
-use Rattle.arbitration.proofs.Rooms.{room-at}
+use Rattle.arbitration.proofs.Lengths.{discarded-few}
+use Rattle.arbitration.proofs.Rooms.{room-at, owed-fits}
 use Rattle.arbitration.proofs.Settled.{entries-next, entries-end, queues-next, queues-end}
-use Rattle.arbitration.proofs.Attached.{count-few, node-at, node-frames, own-pending, place-small}
 use Rattle.arbitration.proofs.Told.{notices-next, notices-end}
 use Rattle.arbitration.specs.After.{entriesAfter, stateAfter, queuesAfter}
 use Rattle.arbitration.specs.Owed.{isOff, discarded, newsTo, noticeOf, noticesBut, owedTo}
-use Rattle.arbitration.specs.Winner.{heldAt}
 use Rattle.buffers.proofs.Offsets.{length-over}
 use Rattle.buffers.specs.Parts.{over}
 use Rattle.bus_state.specs.Memory.{nodeState}
 use Rattle.operation.proofs.Sizes.{head-small}
+use Rattle.slots.specs.Slots.{contentOf, heldIn}
 use borrow.Author.Needs.{needs}
 use denote.Ref.{now}
 use lib.Dec.{eqb}
-use lib.ListN.{length, length-append}
+use lib.ListN.{length, getD, length-append}
 use mathlib.Core.Path.{_≡_, refl, sym, ap, _∙_}
 use native.Mathlib.Nat.{add-sub-cancel-left}
 use native.Mathlib.Numerals.{add-one}
@@ -26,16 +26,28 @@ use Rattle.arbitration.proofs.tell_all.Statement.{statement}
 use Rattle.arbitration.proofs.tell_all.Tie as tie
 
 abbrev Inv-loop2 : tie.InvT-loop2
-Inv-loop2 s e owner position size bytes queues₀ a count nodes slot winner after j d to₀ p₀ end queues to p = (p₀ ≤ p) × (p ≤ end) × (end ≤ 32) × (over queues to (noticesBut a slot p (end - p)) ≡ over queues₀ to₀ (noticesBut a slot p₀ (end - p₀))) × (to + length (noticesBut a slot p (end - p)) ≤ length queues) × (length queues ≡ length queues₀)
+Inv-loop2 s e owner position size winner bytes queues₀ ids count nodes slot after j d to₀ p₀ end queues to p =
+    (p₀ ≤ p)
+    × (p ≤ end)
+    × (end ≤ 32)
+    × (over queues to (noticesBut ids slot p (end - p)) ≡ over queues₀ to₀ (noticesBut ids slot p₀ (end - p₀)))
+    × (to + length (noticesBut ids slot p (end - p)) ≤ length queues)
+    × (length queues ≡ length queues₀)
 
 abbrev μ-loop2 : tie.MeasureT-loop2
-μ-loop2 s e owner position size bytes queues₀ a count nodes slot winner after j d to₀ p₀ end queues to p = end - p
+μ-loop2 s e owner position size winner bytes queues₀ ids count nodes slot after j d to₀ p₀ end queues to p = end - p
 
 abbrev Inv-loop : tie.InvT-loop
-Inv-loop s e owner position size bytes queues₀ a count nodes slot winner after₀ j₀ queues after j = (j ≤ count) × (count ≤ 8) × (entriesAfter e nodes owner size j (count - j) after ≡ entriesAfter e nodes owner size 0 count nodes) × (queuesAfter e nodes owner position a bytes j (count - j) queues ≡ queuesAfter e nodes owner position a bytes 0 count queues₀) × (length queues ≡ length queues₀)
+Inv-loop s e owner position size winner bytes queues₀ ids count nodes slot after₀ j₀ queues after j =
+    (j ≤ count)
+    × (count ≤ 8)
+    × (entriesAfter e nodes owner size j (count - j) after ≡ entriesAfter e nodes owner size 0 count nodes)
+    × (queuesAfter e nodes owner position (heldIn (contentOf winner)) ids bytes j (count - j) queues
+    ≡ queuesAfter e nodes owner position (heldIn (contentOf winner)) ids bytes 0 count queues₀)
+    × (length queues ≡ length queues₀)
 
 abbrev μ-loop : tie.MeasureT-loop
-μ-loop s e owner position size bytes queues₀ a count nodes slot winner after₀ j₀ queues after j = count - j
+μ-loop s e owner position size winner bytes queues₀ ids count nodes slot after₀ j₀ queues after j = count - j
 
 cast-count : tie.Need-cast-count Inv-loop2 μ-loop2 Inv-loop μ-loop
 cast-count c = search needs
@@ -43,36 +55,19 @@ cast-count c = search needs
 mul-slot : tie.Need-mul-slot Inv-loop2 μ-loop2 Inv-loop μ-loop
 mul-slot c =
     let s = c .before .before .before .before in
-    let a = s .args in
-    let t = place-small (a .s) (a .t6) (s .pre .0 .0) (a .owner) (a .position) (s .pre .1 .0) in
-    omega (arith, t .0, t .1, t .2)
+    omega (arith, s .pre .0 .2 .count, s .pre .1 .0 .0)
 
 add-slot : tie.Need-add-slot Inv-loop2 μ-loop2 Inv-loop μ-loop
 add-slot c =
     let s = c .before .before .before .before in
-    let a = s .args in
-    let t = place-small (a .s) (a .t6) (s .pre .0 .0) (a .owner) (a .position) (s .pre .1 .0) in
-    omega (arith, t .0, t .1, t .2)
-
-mul-winner : tie.Need-mul-winner Inv-loop2 μ-loop2 Inv-loop μ-loop
-mul-winner c =
-    let s = c .before .before .before .before in
-    let a = s .args in
-    let t = place-small (a .s) (a .t6) (s .pre .0 .0) (a .owner) (a .position) (s .pre .1 .0) in
-    omega (arith, t .0, t .1, t .2)
-
-array-copy-out-winner : tie.Need-array-copy-out-winner Inv-loop2 μ-loop2 Inv-loop μ-loop
-array-copy-out-winner c =
-    let s = c .before .before .before .before in
-    let a = s .args in
-    let t = place-small (a .s) (a .t6) (s .pre .0 .0) (a .owner) (a .position) (s .pre .1 .0) in
-    omega (arith, t .0, t .1, t .2)
+    let w = s .pre .1 .0 in
+    omega (arith, s .pre .0 .2 .count, w .0, w .1, s .pre .0 .2 .few (s .args .owner) (w .0))
 
 loop-holds : tie.Need-loop-holds Inv-loop2 μ-loop2 Inv-loop μ-loop
 loop-holds c =
-    let s = c .before .before .before .before .before .before in
+    let s = c .before .before .before .before .before in
     let z : s .args .s .count - 0 ≡ s .args .s .count = omega arith in
-    (omega arith, count-few (s .args .s) (s .args .t6) (s .pre .0 .0), rw z, rw z, refl)
+    (omega arith, s .pre .0 .2 .count, rw z, rw z, refl)
 
 mul-d : tie.Need-mul-d Inv-loop2 μ-loop2 Inv-loop μ-loop
 mul-d c = search needs
@@ -81,26 +76,14 @@ array-copy-out-d : tie.Need-array-copy-out-d Inv-loop2 μ-loop2 Inv-loop μ-loop
 array-copy-out-d c = search needs
 
 tell-requires : tie.Need-tell-requires Inv-loop2 μ-loop2 Inv-loop μ-loop
-unfolding owedTo
 tell-requires c κs =
-    let s = c .before .before .before .before .before .before .before .before .before .before in
+    let s = c .before .before .before .before .before .before .before .before .before in
     let a = s .args in
     let l = c .before .before .before .loop in
-    let v = s .pre .0 .0 in
-    let w = s .pre .1 .0 in
     let g = s .pre .1 .1 .0 in
     let r = s .pre .1 .1 .1 in
-    let u = node-at (a .s) (a .t6) v (a .owner) (w .0) in
-    let f = u .frames (a .position) (w .1) in
-    let n = node-at (a .s) (a .t6) v (l .j) (omega arith) in
-    let d = nodeState (a .s) (l .j) in
-    let k = owed-length-is (a .e) d (l .j) (a .owner) (a .position) (a .t6) (now (a .bytes)) (a .size) f (s .pre .0 .2) (g .0) (g .1) (omega (arith, u .few, w .1)) (n .few) (λ q. rw q (w .1)) (node-frames n) in
-    let room = room-at (a .e) (a .s .nodes) (a .owner) (a .size) (a .s .count) (r .0) (l .j) (omega arith) in
-    let slot = 4 * a .owner + a .position in
-    let news = newsTo (a .e) (l .j) (a .owner) (isOff d) (heldAt (a .t6) slot) (now (a .bytes)) in
-    let told = noticesBut (a .t6) slot (4 * l .j) (discarded d) in
-    let h = length-append news told in
-    (omega arith, (f, ((s .pre .0 .2, g .0, g .1), omega (arith, k, h, room, r .1, l .inv .4))))
+    let k = owed-fits (a .e) (heldIn (contentOf (a .winner))) (now (a .bytes)) (a .size) (s .pre .0 .2) (s .pre .1 .0) (g .0) (s .pre .0 .1) (g .1) (g .2) (r .0) (l .j) (omega arith) in
+    (omega arith, (g .0, ((s .pre .0 .1, g .1, g .2), omega (arith, k, r .1, l .inv .4))))
 
 mul-p : tie.Need-mul-p Inv-loop2 μ-loop2 Inv-loop μ-loop
 mul-p c = search needs
@@ -113,55 +96,43 @@ cast-end c = search needs
 
 add-end : tie.Need-add-end Inv-loop2 μ-loop2 Inv-loop μ-loop
 add-end c =
-    let s = c .before .before .before .before .before .before .before .before .before .before .before .before .before .before in
-    let a = s .args in
+    let s = c .before .before .before .before .before .before .before .before .before .before .before .before .before in
     let l = c .before .before .before .before .before .before .before .loop in
-    let n = node-at (a .s) (a .t6) (s .pre .0 .0) (l .j) (omega arith) in
-    omega (arith, c .discarded .ensures, discarded-few (nodeState (a .s) (l .j)), n .few)
+    omega (arith, c .discarded .ensures, discarded-few (nodeState (s .args .s) (l .j)), s .pre .0 .2 .few (l .j) (omega arith))
 
 loop2-holds : tie.Need-loop2-holds Inv-loop2 μ-loop2 Inv-loop μ-loop
-unfolding owedTo
 loop2-holds c =
-    let s = c .before .before .before .before .before .before .before .before .before .before .before .before .before .before in
+    let s = c .before .before .before .before .before .before .before .before .before .before .before .before .before in
     let a = s .args in
     let l = c .before .before .before .before .before .before .before .loop in
-    let v = s .pre .0 .0 in
-    let w = s .pre .1 .0 in
     let g = s .pre .1 .1 .0 in
     let r = s .pre .1 .1 .1 in
-    let u = node-at (a .s) (a .t6) v (a .owner) (w .0) in
-    let f = u .frames (a .position) (w .1) in
-    let n = node-at (a .s) (a .t6) v (l .j) (omega arith) in
+    let op = heldIn (contentOf (a .winner)) in
     let d = nodeState (a .s) (l .j) in
-    let k = owed-length-is (a .e) d (l .j) (a .owner) (a .position) (a .t6) (now (a .bytes)) (a .size) f (s .pre .0 .2) (g .0) (g .1) (omega (arith, u .few, w .1)) (n .few) (λ q. rw q (w .1)) (node-frames n) in
-    let room = room-at (a .e) (a .s .nodes) (a .owner) (a .size) (a .s .count) (r .0) (l .j) (omega arith) in
-    let slot = 4 * a .owner + a .position in
-    let news = newsTo (a .e) (l .j) (a .owner) (isOff d) (heldAt (a .t6) slot) (now (a .bytes)) in
-    let told = noticesBut (a .t6) slot (4 * l .j) (discarded d) in
-    let h = length-append news told in
-    let few = discarded-few d in
+    let k = owed-fits (a .e) op (now (a .bytes)) (a .size) (s .pre .0 .2) (s .pre .1 .0) (g .0) (s .pre .0 .1) (g .1) (g .2) (r .0) (l .j) (omega arith) in
+    let news = newsTo (a .e) (l .j) (a .owner) (isOff d) op (now (a .bytes)) in
+    let few = s .pre .0 .2 .few (l .j) (omega arith) in
     let t = c .before .before .before .tell .ensures in
-    let o = length-over (4_096 * l .j + d .fill) news (l .queues) (omega (arith, k, h, room, r .1, l .inv .4)) in
-    (omega arith, omega arith, omega (arith, c .discarded .ensures, few, n .few), refl, rw (c .discarded .ensures, add-sub-cancel-left, t .1, t .0) (omega (arith, k, h, room, r .1, l .inv .4, o)), refl)
+    let o = length-over (4_096 * l .j + d .fill) news (l .queues) (omega (arith, k, r .1, l .inv .4)) in
+    (omega arith, omega arith, omega (arith, c .discarded .ensures, few, discarded-few d), refl, rw (c .discarded .ensures, add-sub-cancel-left, t .1, t .0) (omega (arith, k, r .1, l .inv .4, o)), refl)
 
 mul-put-notice : tie.Need-mul-put-notice Inv-loop2 μ-loop2 Inv-loop μ-loop
 mul-put-notice c = search needs
 
-array-copy-out-put-notice : tie.Need-array-copy-out-put-notice Inv-loop2 μ-loop2 Inv-loop μ-loop
-array-copy-out-put-notice c = search needs
+array-read-put-notice : tie.Need-array-read-put-notice Inv-loop2 μ-loop2 Inv-loop μ-loop
+array-read-put-notice c = search needs
 
 put-notice-requires : tie.Need-put-notice-requires Inv-loop2 μ-loop2 Inv-loop μ-loop
 put-notice-requires c κs =
-    let s = c .before .before .before .before .before .before .before .before .before .before .before .before .before .before .before .before .before .before in
+    let s = c .before .before .before .before .before .before .before .before .before .before .before .before .before .before .before .before in
     let a = s .args in
-    let l = c .before .before .before .before .before .before .before .before .before .before .before .loop in
-    let m = c .before .before .before .loop2 in
-    let n = node-at (a .s) (a .t6) (s .pre .0 .0) (l .j) (omega arith) in
+    let l = c .before .before .before .before .before .before .before .before .before .before .loop in
+    let m = c .before .before .loop2 in
     let slot = 4 * a .owner + a .position in
     let few = discarded-few (nodeState (a .s) (l .j)) in
-    let end = 4 * l .j + c .before .before .before .before .discarded .result in
-    let x = notices-next (a .t6) slot (m .p) end (omega arith) in
-    (node-frames n (m .p) (m .inv .0) (omega (arith, c .before .before .before .before .discarded .ensures, few)), omega (arith, m .inv .4, ap length x, length-append (noticeOf (eqb (m .p) slot) (heldAt (a .t6) (m .p))) (noticesBut (a .t6) slot (suc (m .p)) (end - suc (m .p)))))
+    let end = 4 * l .j + c .before .before .before .discarded .result in
+    let x = notices-next (a .t7) slot (m .p) end (omega arith) in
+    (s .pre .0 .2 .lawful (l .j) (omega arith) (m .p) (m .inv .0) (omega (arith, c .before .before .before .discarded .ensures, few)), omega (arith, m .inv .4, ap length x, length-append (noticeOf (eqb (m .p) slot) (getD (a .t7) (m .p) 0)) (noticesBut (a .t7) slot (suc (m .p)) (end - suc (m .p)))))
 
 add-p : tie.Need-add-p Inv-loop2 μ-loop2 Inv-loop μ-loop
 add-p c = search needs
@@ -171,15 +142,14 @@ loop2-less c = search needs
 
 loop2-again : tie.Need-loop2-again Inv-loop2 μ-loop2 Inv-loop μ-loop
 loop2-again c =
-    let s = c .before .before .before .before .before .before .before .before .before .before .before .before .before .before .before .before .before .before .before .before .before in
-    let a = s .args in
-    let l = c .before .before .before .before .before .before .before .before .before .before .before .before .before .before .loop in
-    let m = c .before .before .before .before .before .before .loop2 in
+    let a = c .before .before .before .before .before .before .before .before .before .before .before .before .before .before .before .before .before .before .before .args in
+    let l = c .before .before .before .before .before .before .before .before .before .before .before .before .before .loop in
+    let m = c .before .before .before .before .before .loop2 in
     let slot = 4 * a .owner + a .position in
-    let end = 4 * l .j + c .before .before .before .before .before .before .before .discarded .result in
-    let first = noticeOf (eqb (m .p) slot) (heldAt (a .t6) (m .p)) in
-    let rest = noticesBut (a .t6) slot (suc (m .p)) (end - suc (m .p)) in
-    let x = notices-next (a .t6) slot (m .p) end (omega arith) in
+    let end = 4 * l .j + c .before .before .before .before .before .before .discarded .result in
+    let first = noticeOf (eqb (m .p) slot) (getD (a .t7) (m .p) 0) in
+    let rest = noticesBut (a .t7) slot (suc (m .p)) (end - suc (m .p)) in
+    let x = notices-next (a .t7) slot (m .p) end (omega arith) in
     let k = length-append first rest in
     let e = c .before .before .put-notice .ensures in
     let h = length-over (m .to) first (m .queues) (omega (arith, m .inv .4, ap length x, k)) in
@@ -187,20 +157,12 @@ loop2-again c =
 
 entry-after-requires : tie.Need-entry-after-requires Inv-loop2 μ-loop2 Inv-loop μ-loop
 entry-after-requires c κs =
-    let s = c .before .before .before .before .before .before .before .before .before .before .before .before .before .before .before .before in
+    let s = c .before .before .before .before .before .before .before .before .before .before .before .before .before .before .before in
     let a = s .args in
     let l = c .before .before .before .before .before .before .before .before .before .loop in
-    let v = s .pre .0 .0 in
-    let w = s .pre .1 .0 in
     let g = s .pre .1 .1 .0 in
-    let r = s .pre .1 .1 .1 in
-    let u = node-at (a .s) (a .t6) v (a .owner) (w .0) in
-    let f = u .frames (a .position) (w .1) in
-    let n = node-at (a .s) (a .t6) v (l .j) (omega arith) in
-    let d = nodeState (a .s) (l .j) in
-    let k = owed-length-is (a .e) d (l .j) (a .owner) (a .position) (a .t6) (now (a .bytes)) (a .size) f (s .pre .0 .2) (g .0) (g .1) (omega (arith, u .few, w .1)) (n .few) (λ q. rw q (w .1)) (node-frames n) in
-    let room = room-at (a .e) (a .s .nodes) (a .owner) (a .size) (a .s .count) (r .0) (l .j) (omega arith) in
-    (own-pending (a .s) (l .j) (a .owner) (omega (arith, w .1)), omega (arith, g .1, f .short, head-small (heldAt (a .t6) (4 * a .owner + a .position))), room)
+    let room = room-at (a .e) (a .s .nodes) (a .owner) (a .size) (a .s .count) (s .pre .1 .1 .1 .0) (l .j) (omega arith) in
+    (own-pending (a .s) (l .j) (a .owner) (omega (arith, s .pre .1 .0 .1)), omega (arith, g .2, g .0 .short, head-small (heldIn (contentOf (a .winner)))), room)
 
 mul-after : tie.Need-mul-after Inv-loop2 μ-loop2 Inv-loop μ-loop
 mul-after c = search needs
@@ -217,35 +179,31 @@ loop-less c = search needs
 loop-again : tie.Need-loop-again Inv-loop2 μ-loop2 Inv-loop μ-loop
 unfolding owedTo
 loop-again c =
-    let s = c .before .before .before .before .before .before .before .before .before .before .before .before .before .before .before .before .before in
+    let s = c .before .before .before .before .before .before .before .before .before .before .before .before .before .before .before .before in
     let a = s .args in
     let l = c .before .before .before .before .before .before .before .before .before .before .loop in
-    let v = s .pre .0 .0 in
-    let w = s .pre .1 .0 in
+    let u : l .j < a .s .count = c .before .before .before .before .before .before .before .before .before .loop-test .taken in
     let g = s .pre .1 .1 .0 in
     let r = s .pre .1 .1 .1 in
-    let u = node-at (a .s) (a .t6) v (a .owner) (w .0) in
-    let f = u .frames (a .position) (w .1) in
-    let n = node-at (a .s) (a .t6) v (l .j) (omega arith) in
+    let op = heldIn (contentOf (a .winner)) in
     let d = nodeState (a .s) (l .j) in
-    let k = owed-length-is (a .e) d (l .j) (a .owner) (a .position) (a .t6) (now (a .bytes)) (a .size) f (s .pre .0 .2) (g .0) (g .1) (omega (arith, u .few, w .1)) (n .few) (λ q. rw q (w .1)) (node-frames n) in
-    let room = room-at (a .e) (a .s .nodes) (a .owner) (a .size) (a .s .count) (r .0) (l .j) (omega arith) in
+    let k = owed-fits (a .e) op (now (a .bytes)) (a .size) (s .pre .0 .2) (s .pre .1 .0) (g .0) (s .pre .0 .1) (g .1) (g .2) (r .0) (l .j) u in
     let slot = 4 * a .owner + a .position in
-    let news = newsTo (a .e) (l .j) (a .owner) (isOff d) (heldAt (a .t6) slot) (now (a .bytes)) in
-    let told = noticesBut (a .t6) slot (4 * l .j) (discarded d) in
+    let news = newsTo (a .e) (l .j) (a .owner) (isOff d) op (now (a .bytes)) in
+    let told = noticesBut (a .t7) slot (4 * l .j) (discarded d) in
     let h = length-append news told in
     let m = c .before .before .loop2 in
     let t = c .before .before .before .before .before .before .tell .ensures in
     let end = 4 * l .j + c .before .before .before .discarded .result in
     let at = 4_096 * l .j + d .fill in
-    let x = sym (over-none (m .queues) (m .to)) ∙ ap (over (m .queues) (m .to)) (sym (notices-end (a .t6) slot (m .p) end (omega arith))) ∙ m .inv .3 in
+    let x = sym (over-none (m .queues) (m .to)) ∙ ap (over (m .queues) (m .to)) (sym (notices-end (a .t7) slot (m .p) end (omega arith))) ∙ m .inv .3 in
     let y = rw (c .before .before .before .discarded .ensures, add-sub-cancel-left) at x in
-    let z = in-two (l .queues) news told at (omega (arith, k, h, room, r .1, l .inv .4)) (t .1) (t .0) y in
-    let o = length-over at (owedTo (a .e) d (l .j) (a .owner) (a .position) (a .t6) (now (a .bytes))) (l .queues) (omega (arith, k, room, r .1, l .inv .4)) in
-    (omega arith, omega arith, rw (add-one (l .j), c .entry-after .ensures) (sym (entries-next (a .e) (a .s .nodes) (a .owner) (a .size) (l .j) (a .s .count) (l .after) (omega arith)) ∙ l .inv .2), rw (add-one (l .j), z) (sym (queues-next (a .e) (a .s .nodes) (a .owner) (a .position) (a .t6) (now (a .bytes)) (l .j) (a .s .count) (l .queues) (omega arith)) ∙ l .inv .3), ap length z ∙ o ∙ l .inv .4)
+    let z = in-two (l .queues) news told at (omega (arith, k, r .1, l .inv .4)) (t .1) (t .0) y in
+    let o = length-over at (owedTo (a .e) d (l .j) (a .owner) (a .position) op (a .t7) (now (a .bytes))) (l .queues) (omega (arith, k, h, r .1, l .inv .4)) in
+    (omega arith, omega arith, rw (add-one (l .j), c .entry-after .ensures) (sym (entries-next (a .e) (a .s .nodes) (a .owner) (a .size) (l .j) (a .s .count) (l .after) (omega arith)) ∙ l .inv .2), rw (add-one (l .j), z) (sym (queues-next (a .e) (a .s .nodes) (a .owner) (a .position) op (a .t7) (now (a .bytes)) (l .j) (a .s .count) (l .queues) (omega arith)) ∙ l .inv .3), ap length z ∙ o ∙ l .inv .4)
 
-add-t41 : tie.Need-add-t41 Inv-loop2 μ-loop2 Inv-loop μ-loop
-add-t41 c = omega (arith, c .before .before .before .before .before .before .before .before .before .pre .0 .1)
+add-t38 : tie.Need-add-t38 Inv-loop2 μ-loop2 Inv-loop μ-loop
+add-t38 c = omega (arith, c .before .before .before .before .before .before .before .before .pre .0 .0)
 
 same-length : tie.Need-same-length Inv-loop2 μ-loop2 Inv-loop μ-loop
 same-length c = c .before .before .loop .inv .4
@@ -253,16 +211,16 @@ same-length c = c .before .before .loop .inv .4
 returns : tie.Need-returns Inv-loop2 μ-loop2 Inv-loop μ-loop
 unfolding stateAfter
 returns c =
-    let a = c .before .before .before .before .before .before .before .before .before .args in
+    let a = c .before .before .before .before .before .before .before .before .args in
     let l = c .before .before .loop in
     let p = sym (entries-end (a .e) (a .s .nodes) (a .owner) (a .size) (l .j) (a .s .count) (l .after) (omega arith)) ∙ l .inv .2 in
-    let q = sym (queues-end (a .e) (a .s .nodes) (a .owner) (a .position) (a .t6) (now (a .bytes)) (l .j) (a .s .count) (l .queues) (omega arith)) ∙ l .inv .3 in
+    let q = sym (queues-end (a .e) (a .s .nodes) (a .owner) (a .position) (heldIn (contentOf (a .winner))) (a .t7) (now (a .bytes)) (l .j) (a .s .count) (l .queues) (omega arith)) ∙ l .inv .3 in
     (rw p, q)
 
 pub tell-all-spec : {M : Type 1} → statement M
 tell-all-spec =
     tie.close
-    (tie.spec Inv-loop2 μ-loop2 Inv-loop μ-loop cast-count mul-slot add-slot mul-winner array-copy-out-winner
-    loop-holds mul-d array-copy-out-d tell-requires mul-p discarded-requires cast-end add-end loop2-holds
-    mul-put-notice array-copy-out-put-notice put-notice-requires add-p loop2-less loop2-again entry-after-requires
-    mul-after array-set-from-after add-j loop-less loop-again add-t41 same-length returns)
+    (tie.spec Inv-loop2 μ-loop2 Inv-loop μ-loop cast-count mul-slot add-slot loop-holds mul-d array-copy-out-d
+    tell-requires mul-p discarded-requires cast-end add-end loop2-holds mul-put-notice array-read-put-notice
+    put-notice-requires add-p loop2-less loop2-again entry-after-requires mul-after array-set-from-after add-j
+    loop-less loop-again add-t38 same-length returns)
