@@ -30,7 +30,7 @@ use Rattle.bus_model.proofs.Settle.{owed-view}
 use Rattle.arbitration.specs.declared.Injection.{Injection}
 use Rattle.arbitration.specs.declared.Injection.the-variants.{NoError, Injected}
 use Rattle.arbitration.specs.Injections.{injectionOf, hasLegalCode}
-use Rattle.arbitration.specs.Winner.{heldAt}
+use Rattle.scan.specs.Winner.{heldAt}
 use Rattle.arbitration.specs.Owed.{PendingAt, isOff, discards, discarded, newsTo, noticesBut, owedTo, owedLength, roomFrom}
 use Rattle.arbitration.proofs.Attached.{count-few, node-at}
 use Rattle.arbitration.proofs.Given.{id-at, tellable}

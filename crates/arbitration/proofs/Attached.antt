@@ -22,7 +22,7 @@ use Rattle.bus_state.specs.Valid.{validSlot, validSlots, validState}
 use Rattle.bus_state.specs.declared.State.{State}
 use Rattle.bus_model.proofs.Lawful.{max-id, fd-short}
 use Rattle.bus_model.proofs.Validity.{slot-is, valid-count, valid-node-at}
-use Rattle.arbitration.specs.Winner.{heldAt}
+use Rattle.scan.specs.Winner.{heldAt}
 use Rattle.arbitration.specs.Owed.{Writable, own}
 
 -- ---- a frame that meets the content rules

@@ -14,7 +14,7 @@ use borrow.Author.Tests.{eqb-true, eqb-false, ne-eqb}
 use Rattle.operation.specs.Format.{lengthOf}
 use Rattle.operation.specs.declared.Operation.{Operation}
 use Rattle.buffers.specs.Parts.{over}
-use Rattle.slots.specs.Slots.{setBlock}
+use Rattle.slots.specs.Slots.{setBlock, blockAt}
 use Rattle.slots.specs.declared.Slot.{Slot}
 use Rattle.plain_bus.specs.Order.{Entry}
 use Rattle.plain_bus.specs.Round.{owed}
@@ -31,10 +31,9 @@ use Rattle.bus_model.proofs.Writes.{Same, same-refl, same-trans, entry-own}
 use Rattle.bus_model.proofs.Views.{Fits, same-fits, same-view}
 use Rattle.bus_model.proofs.Touched.{Touched, same-tidy}
 use Rattle.bus_model.proofs.Settle.{owed-view, settle-touched}
-use Rattle.outcome.specs.Outcome.{blockAt}
 use Rattle.arbitration.specs.declared.Injection.{Injection}
 use Rattle.arbitration.specs.Injections.{injectionOf, hasLegalCode}
-use Rattle.arbitration.specs.Winner.{heldAt}
+use Rattle.scan.specs.Winner.{heldAt}
 use Rattle.arbitration.specs.Owed.{PendingAt, discards, own, stayCount, owedTo, roomFrom}
 use Rattle.arbitration.specs.After.{entryAfter, entriesAfter, stateAfter, queuesAfter, blockWithout, payloadWithout}
 use Rattle.arbitration.proofs.Attached.{node-at}

@@ -24,9 +24,9 @@ use Rattle.outcome.specs.Outcome.{Ended, ended}
 use Rattle.outcome.specs.declared.Outcome.{Outcome}
 use Rattle.outcome.specs.declared.Outcome.the-variants.{BadInjection, QueueFull, RoundsUsedUp, Idle, Carried}
 use Rattle.arbitration.specs.declared.Injection.{Injection}
-use Rattle.arbitration.specs.declared.Winner.the-variants.{Nobody, First}
+use Rattle.scan.specs.declared.Winner.the-variants.{Nobody, First}
 use Rattle.arbitration.specs.Injections.{injectionOf, hasLegalCode, isWrong}
-use Rattle.arbitration.specs.Winner.{heldAt, bestIn}
+use Rattle.scan.specs.Winner.{heldAt, bestIn}
 use Rattle.arbitration.specs.Drawn.{DrawnAt}
 use Rattle.arbitration.specs.Owed.{roomFrom}
 use Rattle.arbitration.specs.After.{stateAfter, queuesAfter, blockWithout, payloadWithout}

@@ -7,9 +7,8 @@ use native.Mathlib.Omega.{arith}
 use native.Mathlib.Nat.{add-zero}
 use lib.ListN.{length, getD, set, length-set}
 use lib.Seq.{getD-set-same, getD-set-other}
-use Rattle.slots.specs.Slots.{freeSlot, setBlock}
+use Rattle.slots.specs.Slots.{freeSlot, setBlock, blockAt}
 use Rattle.slots.specs.declared.Slot.{Slot}
-use Rattle.outcome.specs.Outcome.{blockAt}
 
 module _ (l : List Slot) (at : ℕ) (b : List Slot) where
   -- with the first one set, the first two, and the first three

@@ -1,5 +1,4 @@
 pub mod Bytes
-pub mod Scan
 pub mod Moves
 pub mod Told
 pub mod Lengths

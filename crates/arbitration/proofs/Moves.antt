@@ -9,7 +9,7 @@ use Rattle.operation.specs.Format.{dataLength}
 use Rattle.buffers.specs.Parts.{part, over}
 use Rattle.buffers.proofs.Offsets.{length-part, length-over}
 use Rattle.slots.specs.declared.Slot.{Slot}
-use Rattle.arbitration.specs.Winner.{heldAt}
+use Rattle.scan.specs.Winner.{heldAt}
 use Rattle.arbitration.specs.After.{payloadWithout}
 
 -- one frame's data, and those after it

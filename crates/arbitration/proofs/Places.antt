@@ -9,9 +9,9 @@ use Rattle.plain_bus.specs.Order.{Entry, nobody, wins, rankOf, goesBefore}
 use Rattle.bus_state.specs.Memory.{Memory, frameAt}
 use Rattle.bus_model.specs.Primitives.{entryAt}
 use Rattle.bus_model.specs.Round.{pendingAt, scanFrames, scanNodes, winnerIn}
-use Rattle.arbitration.specs.declared.Winner.{Winner}
-use Rattle.arbitration.specs.declared.Winner.the-variants.{Nobody, First}
-use Rattle.arbitration.specs.Winner.{before, better, bestOf, bestFrom, bestIn}
+use Rattle.scan.specs.declared.Winner.{Winner}
+use Rattle.scan.specs.declared.Winner.the-variants.{Nobody, First}
+use Rattle.scan.specs.Winner.{before, better, bestOf, bestFrom, bestIn}
 
 -- the place of a winner
 abbrev placeOf : plain.Winner → Winner

@@ -16,7 +16,7 @@ use Rattle.bus_state.specs.Memory.{nodeState}
 use Rattle.bus_state.specs.declared.State.{State}
 use Rattle.bus_state.specs.declared.NodeState.{NodeState}
 use Rattle.arbitration.specs.declared.Injection.{Injection}
-use Rattle.arbitration.specs.Winner.{entryOf}
+use Rattle.scan.specs.Winner.{entryOf}
 use Rattle.arbitration.specs.Injections.{hasLegalCode}
 use Rattle.arbitration.specs.Owed.{Writable, Tellable, PendingAt, isOff, discarded, newsTo, noticesBut, owedTo, owedLength, roomFrom}
 use Rattle.arbitration.proofs.Lengths.{owed-length-is}

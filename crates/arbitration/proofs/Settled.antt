@@ -10,7 +10,7 @@ use Rattle.operation.specs.declared.Operation.{Operation}
 use Rattle.buffers.specs.Parts.{over}
 use Rattle.bus_state.specs.declared.NodeState.{NodeState}
 use Rattle.arbitration.specs.declared.Injection.{Injection}
-use Rattle.arbitration.specs.Winner.{entryOf}
+use Rattle.scan.specs.Winner.{entryOf}
 use Rattle.arbitration.specs.Owed.{owedTo}
 use Rattle.arbitration.specs.After.{entryAfter, entriesAfter, queuesAfter}
 

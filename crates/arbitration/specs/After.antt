@@ -16,7 +16,7 @@ use Rattle.bus_state.specs.Entries.{entryFill, entryPending}
 use Rattle.bus_state.specs.declared.State.{State}
 use Rattle.bus_state.specs.declared.NodeState.{NodeState}
 use Rattle.arbitration.specs.declared.Injection.{Injection}
-use Rattle.arbitration.specs.Winner.{heldAt, entryOf}
+use Rattle.scan.specs.Winner.{heldAt, entryOf}
 use Rattle.arbitration.specs.Owed.{owedLength, owedTo, stayCount}
 
 -- a node's entry after the round

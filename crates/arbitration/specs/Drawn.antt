@@ -9,15 +9,10 @@ use Rattle.slots.specs.declared.Slot.{Slot}
 use Rattle.bus_state.specs.Memory.{slotCount, slotsPerNode}
 use Rattle.bus_state.specs.Valid.{validState}
 use Rattle.bus_state.specs.declared.State.{State}
-use Rattle.outcome.specs.Outcome.{blockAt}
-use Rattle.arbitration.specs.declared.Winner.{Winner}
-use Rattle.arbitration.specs.declared.Winner.the-variants.{Nobody, First}
-use Rattle.arbitration.specs.Winner.{bestIn}
-
--- the winner's node; 0 where there is no winner
-abbrev pub ownerOf : Winner → ℕ
-ownerOf Nobody = 0
-ownerOf (First rank owner position) = owner
+use Rattle.slots.specs.Slots.{blockAt}
+use Rattle.scan.specs.declared.Winner.{Winner}
+use Rattle.scan.specs.declared.Winner.the-variants.{Nobody, First}
+use Rattle.scan.specs.Winner.{bestIn, ownerOf}
 
 -- they are those of some slots that are valid with the state
 pub record Drawn (s : State) (a : List Slot) (best : Winner) (four : List Slot) (ids : List ℕ) : Type 0 where

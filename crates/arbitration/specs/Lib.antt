@@ -1,5 +1,4 @@
 pub mod Injections
-pub mod Winner
 pub mod Drawn
 pub mod Owed
 pub mod After

@@ -19,7 +19,7 @@ use Rattle.bus_state.specs.declared.State.{State}
 use Rattle.bus_state.specs.declared.NodeState.{NodeState}
 use Rattle.arbitration.specs.declared.Injection.{Injection}
 use Rattle.arbitration.specs.declared.Injection.the-variants.{NoError, Injected}
-use Rattle.arbitration.specs.Winner.{heldAt, entryOf}
+use Rattle.scan.specs.Winner.{heldAt, entryOf}
 
 -- ---- a frame, and a node's entry
 

@@ -16,8 +16,8 @@ ghost use Rattle.bus_model.specs.Round.{pendingAt};
 ghost use Rattle.bus_model.specs.Calls.{arbitrateIn, rounded};
 ghost use Rattle.outcome.specs.Outcome.{endedBy, ended};
 ghost use Rattle.arbitration.specs.Injections.{injectionOf, injectionFrom, hasLegalCode, isWrong};
-ghost use Rattle.arbitration.specs.Winner.{heldAt};
-ghost use Rattle.arbitration.specs.Drawn.{ownerOf, Drawn, DrawnAt};
+ghost use Rattle.scan.specs.Winner.{heldAt, ownerOf};
+ghost use Rattle.arbitration.specs.Drawn.{Drawn, DrawnAt};
 ghost use Rattle.arbitration.specs.Owed.{Writable, Frames, Tellable, PendingAt, isOff, discards, discarded, own, toldCount, stayCount, flagAt, newsTo, noticeOf, newsLength, owedLength, roomFrom};
 ghost use Rattle.arbitration.specs.After.{entryAfter, stateAfter, queuesAfter, source, blockWithout, payloadWithout};
 ghost use Rattle.arbitration.specs.Round.{carriedOut};
@@ -26,6 +26,7 @@ use bus_state::State;
 use operation::Operation;
 use outcome::Change;
 use outcome::Outcome;
+use scan::Winner;
 use slots::Slot;
 
 // An error injected into a round: its code, and the number of the node that detects it.
@@ -85,16 +86,6 @@ fn is_errored(e: Injection) -> bool
 }
 
 // ---- the winner
-
-// The first of some pending frames: what it is compared by, its node, and its position among that node's frames.
-pub enum Winner {
-    Nobody,
-    First {
-        rank: u32,
-        owner: usize,
-        position: usize,
-    },
-}
 
 // The first slot of the winner's node; 0 where there is no winner.
 fn first_slot(best: Winner) -> usize

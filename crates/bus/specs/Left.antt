@@ -2,12 +2,13 @@
 -- Assumes nothing.
 use mathlib.Core.Path.{_≡_}
 use Prim.Native.Nat.{ℕ}
-use mathlib.Core.List.{List}
+use mathlib.Core.List.{List, map}
 use lib.ListN.{length}
+use Rattle.slots.specs.Slots.{blockAt}
 use Rattle.slots.specs.declared.Slot.{Slot}
 use Rattle.bus_state.specs.Memory.{held, slotCount}
 use Rattle.bus_state.specs.declared.State.{State}
-use Rattle.scan.specs.Scan.{scanned}
+use Rattle.scan.specs.Scan.{winnerBlock, scanned}
 use Rattle.bus_model.specs.Calls.{Result}
 use Rattle.outcome.specs.Outcome.{outcomeIs, answerOf, Ended}
 use Rattle.outcome.specs.declared.Answer.{Answer}
@@ -41,3 +42,9 @@ keptBy c slots payload queues = record { outcome = c .outcome; memory = held (c 
 pub record Scanned (s : State) (key : ℕ) (a : List Slot) : Type 0 where
   pub slots : length a ≡ slotCount
   pub key-is : scanned s a ≡ key
+
+-- and what a round takes of them: the four of the winner's node, and the ID in every one
+pub record Taken (s : State) (key : ℕ) (four : List Slot) (ids : List ℕ) (a : List Slot) : Type 0 where
+  pub scan : Scanned s key a
+  pub block : blockAt a (winnerBlock key) ≡ four
+  pub named : map (λ (x : Slot). x .id) a ≡ ids

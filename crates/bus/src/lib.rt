@@ -1,16 +1,18 @@
-// The calls of the bus with the slots by value: the refusals 1 and 3 in front, then what the call does. The public calls load the
-// lent slots, call these, and put back the slots that changed.
+// The calls of the bus with what the pass over the slots gave in their place: the refusals 1 and 3 in front, then what the call does.
+// The public calls go over the lent slots, call these, and put back the slots that changed.
 ghost use mathlib.Core.Path.{_≡_};
 ghost use mathlib.Core.List.{List};
 ghost use Prim.Native.Nat.{_+_, _≤_};
 ghost use lib.ListN.{length};
+ghost use Rattle.slots.specs.Slots.{blockAt};
 ghost use Rattle.slots.specs.declared.Slot.{Slot};
 ghost use Rattle.bus_state.specs.Memory.{held};
 ghost use Rattle.bus_model.specs.Primitives.{newEntry, newState};
 ghost use Rattle.bus_model.specs.Calls.{startIn, submitIn, roundIn, collectIn, bufferAfter};
 ghost use Rattle.outcome.specs.Outcome.{answerOf, endedBy, ended};
 ghost use Rattle.arbitration.specs.Injections.{injectionFrom};
-ghost use Rattle.bus.specs.Left.{startedBy, keptBy, Scanned};
+ghost use Rattle.submission.specs.Carrying.{firstSlot};
+ghost use Rattle.bus.specs.Left.{startedBy, keptBy, Scanned, Taken};
 use bus_state::NodeState;
 use bus_state::State;
 use outcome::Answer;
@@ -91,52 +93,92 @@ pub fn start(a: [Slot; 32], payload: &[u8], queues: &[u8], count: u32) -> Starte
     }
 }
 
+// The sender's four slots are those from submission::first_slot(node) on.
 pub fn submit(
     s: State,
-    a: [Slot; 32],
+    key: u64,
+    four: [Slot; 4],
     payload: &mut [u8],
     queues: &mut [u8],
     node: u32,
     buffer: &[u8],
 ) -> Change
-    ensures ended { λ r. ⌜ endedBy r a (now (payload .exit)) (now (queues .exit)) ≡ ended (submitIn (held s a (now (payload .entry)) (now (queues .entry))) node (now (buffer .entry))) ⌝ }
+    requires { ⌜ ((a : List Slot) × Scanned s key a) ⌝ }
+    ensures ended { λ r. ⌜ ((a : List Slot) → Scanned s key a → blockAt a (firstSlot node) ≡ four → endedBy r a (now (payload .exit)) (now (queues .exit)) ≡ ended (submitIn (held s a (now (payload .entry)) (now (queues .entry))) node (now (buffer .entry)))) ⌝ }
     ensures inside { λ r. ⌜ r .at + 4 ≤ 32 ⌝ }
 {
+    let at = submission::first_slot(node);
     if payload.len() != PAYLOAD_BYTES {
-        return outcome::unchanged(Outcome::WrongMemory, s, a);
+        return Change {
+            outcome: Outcome::WrongMemory,
+            state: s,
+            at,
+            block: four,
+        };
     }
     if queues.len() != QUEUE_BYTES {
-        return outcome::unchanged(Outcome::WrongMemory, s, a);
+        return Change {
+            outcome: Outcome::WrongMemory,
+            state: s,
+            at,
+            block: four,
+        };
     }
-    if !bus_state::is_valid(s, a) {
-        return outcome::unchanged(Outcome::Invalid, s, a);
+    if key == scan::INVALID {
+        return Change {
+            outcome: Outcome::Invalid,
+            state: s,
+            at,
+            block: four,
+        };
     }
-    submission::submit(s, a, payload, queues, node, buffer)
+    submission::submit(s, four, payload, queues, node, buffer)
 }
 
+// The four slots are those from scan::winner_block(key) on, and the IDs those of all slots.
 pub fn round(
     s: State,
-    a: [Slot; 32],
+    key: u64,
+    four: [Slot; 4],
+    ids: [u32; 32],
     payload: &mut [u8],
     queues: &mut [u8],
     injected: u32,
     code: u32,
     detector: u32,
 ) -> Change
-    ensures ended { λ r. ⌜ endedBy r a (now (payload .exit)) (now (queues .exit)) ≡ ended (roundIn (held s a (now (payload .entry)) (now (queues .entry))) (injectionFrom injected code detector)) ⌝ }
+    requires { ⌜ ((a : List Slot) × Taken s key four ids a) ⌝ }
+    ensures ended { λ r. ⌜ ((a : List Slot) → Taken s key four ids a → endedBy r a (now (payload .exit)) (now (queues .exit)) ≡ ended (roundIn (held s a (now (payload .entry)) (now (queues .entry))) (injectionFrom injected code detector))) ⌝ }
     ensures inside { λ r. ⌜ r .at + 4 ≤ 32 ⌝ }
 {
+    let at = scan::winner_block(key);
     if payload.len() != PAYLOAD_BYTES {
-        return outcome::unchanged(Outcome::WrongMemory, s, a);
+        return Change {
+            outcome: Outcome::WrongMemory,
+            state: s,
+            at,
+            block: four,
+        };
     }
     if queues.len() != QUEUE_BYTES {
-        return outcome::unchanged(Outcome::WrongMemory, s, a);
+        return Change {
+            outcome: Outcome::WrongMemory,
+            state: s,
+            at,
+            block: four,
+        };
     }
-    if !bus_state::is_valid(s, a) {
-        return outcome::unchanged(Outcome::Invalid, s, a);
+    if key == scan::INVALID {
+        return Change {
+            outcome: Outcome::Invalid,
+            state: s,
+            at,
+            block: four,
+        };
     }
+    let best = scan::winner_of(key);
     let e = arbitration::injection_of(injected, code, detector);
-    arbitration::round(s, a, payload, queues, e)
+    arbitration::round(s, best, four, ids, payload, queues, e)
 }
 
 // The queue goes to the front of the caller's buffer.

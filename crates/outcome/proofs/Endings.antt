@@ -7,16 +7,11 @@ use Rattle.slots.proofs.Blocks.{same-block}
 use Rattle.slots.specs.declared.Slot.{Slot}
 use Rattle.bus_state.specs.Memory.{held}
 use Rattle.bus_state.specs.declared.State.{State}
-use Rattle.outcome.specs.Outcome.{unchanged, blockAt, endedBy}
-use Rattle.outcome.specs.declared.Change.{Change}
+use Rattle.outcome.specs.Outcome.{endedBy}
+use Rattle.slots.specs.Slots.{blockAt}
 use Rattle.outcome.specs.declared.Outcome.{Outcome}
 
-pub unchanged-ends : (o : Outcome) (s : State) (a : List Slot) (p q : List ℕ) {c : Change} → c ≡ unchanged o s a
-    → endedBy c a p q ≡ record { outcome = o; memory = held s a p q }
-unchanged-ends o s a p q e =
-    ap (λ (x : Change). endedBy x a p q) e ∙ ap (λ (l : List Slot). record { outcome = o; memory = held s l p q }) (same-block a 0)
-
--- the same with any four slots that are there
+-- four slots that are there, laid again
 pub block-kept-ends : (o : Outcome) (s : State) (a : List Slot) (at : ℕ) (p q : List ℕ) {four : List Slot} → four ≡ blockAt a at
     → endedBy (record { outcome = o; state = s; at = at; block = four }) a p q ≡ record { outcome = o; memory = held s a p q }
 block-kept-ends o s a at p q e =

@@ -4,7 +4,7 @@ use Prim.Native.Nat.{ℕ}
 use mathlib.Core.List.{List}
 use mathlib.Core.Bool.{cond}
 use lib.ListN.{length}
-use Rattle.slots.specs.Slots.{blockAt, setBlock}
+use Rattle.slots.specs.Slots.{setBlock}
 use Rattle.slots.specs.declared.Slot.{Slot}
 use Rattle.plain_bus.specs.Refusal.{Refusal, badNodeCount, invalid, notAttached, bufferTooLong, badInjection, fourPending, queueFull, roundsUsedUp, roomTooSmall}
 use Rattle.plain_bus.specs.Calls as calls
@@ -69,9 +69,6 @@ answerOf (Carried sender id errored age) s = answerRow 0 id age 0 sender 0 (cond
 answerOf (Collected n) s = answerRow 0 0 0 n 0 0 0 s
 
 -- ---- what a call leaves among the slots
-
-abbrev pub unchanged : Outcome → State → List Slot → Change
-unchanged o s slots = record { outcome = o; state = s; at = 0; block = blockAt slots 0 }
 
 -- an outcome with the memory after it
 pub record Ended : Type 0 where

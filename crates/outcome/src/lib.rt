@@ -1,9 +1,6 @@
 // What a call of the bus comes to: an outcome beside the state, and from it the answer with the number and the values of 01.
 ghost use mathlib.Core.Path.{_≡_};
-ghost use Prim.Native.Nat.{_<_, _+_, _≤_};
-ghost use lib.ListN.{getD};
-ghost use Rattle.slots.specs.Slots.{freeSlot, blockAt};
-ghost use Rattle.outcome.specs.Outcome.{answerOf, answerRow, unchanged};
+ghost use Rattle.outcome.specs.Outcome.{answerOf, answerRow};
 use bus_state::State;
 use slots::Slot;
 
@@ -50,31 +47,6 @@ pub struct Answer {
     pub idle: u8,
     pub errored: u8,
     pub state: State,
-}
-
-// The four slots from a position on, for the crates above: what is asked of the position they must meet.
-pub fn block_at(a: [Slot; 32], at: usize) -> [Slot; 4]
-    requires { ⌜ at + 4 ≤ 32 ⌝ }
-    ensures { λ r. ⌜ r ≡ blockAt a at ⌝ }
-{
-    let first = a[at];
-    let second = a[at + 1];
-    let third = a[at + 2];
-    let fourth = a[at + 3];
-    [first, second, third, fourth]
-}
-
-// A refusal, or an idle round: the state and the slots as they were.
-pub fn unchanged(outcome: Outcome, state: State, a: [Slot; 32]) -> Change
-    ensures { λ r. ⌜ r ≡ unchanged outcome state a ⌝ }
-{
-    let block = block_at(a, 0);
-    Change {
-        outcome,
-        state,
-        at: 0,
-        block,
-    }
 }
 
 pub fn answer_of(outcome: Outcome, state: State) -> Answer

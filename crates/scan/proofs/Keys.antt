@@ -2,15 +2,15 @@
 -- Assumes nothing.
 use mathlib.Core.Path.{_≡_, refl, sym, ap, _∙_}
 use mathlib.Core.Bool.{Bool, true, false, cond, _&&_, _||_}
-use Prim.Native.Nat.{ℕ, _+_, _*_, _-_, _≤_, _<_}
+use Prim.Native.Nat.{ℕ, _+_, _*_, _-_, _/_, _%_, _≤_, _<_}
 use native.Mathlib.Omega.{arith}
-use lib.Dec.{ltb, eqb}
-use borrow.Author.Tests.{lt-ltb, le-ltb, ltb-true, ltb-false, eqb-true, eqb-false}
+use lib.Dec.{leb, ltb, eqb}
+use borrow.Author.Tests.{lt-leb, lt-ltb, le-ltb, ltb-true, ltb-false, eqb-true, eqb-false, ne-eqb}
 use Rattle.plain_bus.specs.Order.{lowerOr}
 use Rattle.scan.specs.declared.Winner.{Winner}
 use Rattle.scan.specs.declared.Winner.the-variants.{Nobody, First}
-use Rattle.scan.specs.Winner.{before, better, Small}
-use Rattle.scan.specs.Scan.{frameKey, noFrame, keyOf, lowerOf}
+use Rattle.scan.specs.Winner.{before, better, ownerOf, Small}
+use Rattle.scan.specs.Scan.{frameKey, noFrame, keyOf, winnerBlock, lowerOf}
 
 -- ---- read as they are made
 
@@ -27,6 +27,17 @@ a-frame (First r₁ o₁ p₁) r o p s h ho hp e =
     let b : o ≡ o₁ = omega (arith, s .1, s .2) in
     let c : p ≡ p₁ = omega (arith, s .1, s .2) in
     rw (a, b, c)
+
+frame-block : (r o p k : ℕ) → frameKey r (4 * o + p) ≡ k → r < 4_294_967_296 → o < 8 → p < 4 → winnerBlock k ≡ 4 * o
+unfolding winnerBlock
+frame-block r o p k e hr ho hp =
+    let place : 4 * ((k - 1) % 32 / 4) ≡ 4 * o = omega arith in
+    rw (ne-eqb k 0 (λ z. omega arith), lt-leb noFrame k (omega arith)) place
+
+pub block-of : (w : Winner) → Small w → winnerBlock (keyOf w) ≡ 4 * ownerOf w
+unfolding keyOf winnerBlock
+block-of Nobody s = refl
+block-of (First r o p) s = frame-block r o p (frameKey r (4 * o + p)) refl (s .0) (s .1) (s .2)
 
 -- ---- the order by the keys is the order among frames
 

@@ -1,9 +1,9 @@
 -- One pass over the pending frames: it tests whether state and slots are valid and finds the winner, both in one number, the key.
 -- Assumes nothing.
-use Prim.Native.Nat.{ℕ, zero, suc, _+_, _*_}
+use Prim.Native.Nat.{ℕ, zero, suc, _+_, _*_, _-_, _/_, _%_}
 use mathlib.Core.List.{List}
 use mathlib.Core.Bool.{cond, _&&_}
-use lib.Dec.{leb, ltb}
+use lib.Dec.{leb, ltb, eqb}
 use lib.ListN.{getD}
 use Rattle.slots.specs.Slots.{freeSlot}
 use Rattle.slots.specs.declared.Slot.{Slot}
@@ -28,6 +28,10 @@ noFrame = 137_438_953_473
 unfoldable pub keyOf : Winner → ℕ
 keyOf Nobody = noFrame
 keyOf (First rank owner position) = frameKey rank (slotsPerNode * owner + position)
+
+-- the first slot of the winner's node, by the key; 0 where there is no winner
+unfoldable pub winnerBlock : ℕ → ℕ
+winnerBlock key = cond (eqb key 0) 0 (cond (leb noFrame key) 0 (slotsPerNode * ((key - 1) % 32 / 4)))
 
 abbrev pub lowerOf : ℕ → ℕ → ℕ
 lowerOf a b = cond (ltb a b) a b

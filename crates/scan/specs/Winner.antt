@@ -48,6 +48,11 @@ bestFrom nodes a j (suc n) w = bestFrom nodes a (suc j) n (bestOf a j 0 (entryOf
 unfoldable pub bestIn : State → List Slot → Winner
 bestIn s a = bestFrom (s .nodes) a 0 (s .count) Nobody
 
+-- the winner's node; 0 where there is no winner
+abbrev pub ownerOf : Winner → ℕ
+ownerOf Nobody = 0
+ownerOf (First rank owner position) = owner
+
 -- a winner has one of the 32 slots, and a rank of 32 bits
 abbrev pub Small : Winner → Type 0
 Small Nobody = Unit {0}

@@ -3,10 +3,10 @@
 ghost use mathlib.Core.Path.{_≡_};
 ghost use mathlib.Core.Bool.{_&&_};
 ghost use lib.Dec.{leb};
-ghost use Prim.Native.Nat.{_≤_, _<_};
+ghost use Prim.Native.Nat.{_+_, _≤_, _<_};
 ghost use Rattle.scan.specs.Winner.{Small};
 ghost use Rattle.scan.specs.declared.Winner.{Winner};
-ghost use Rattle.scan.specs.Scan.{keyOf, lowerOf, stepOf, begun, entryKey, frameCount, attachedCount, firstKey};
+ghost use Rattle.scan.specs.Scan.{keyOf, winnerBlock, lowerOf, stepOf, begun, entryKey, frameCount, attachedCount, firstKey};
 use bus_state::NodeState;
 use bus_state::State;
 use slots::Slot;
@@ -139,4 +139,18 @@ pub fn winner_of(key: u64) -> Winner
         owner: (place / 4) as usize,
         position: (place % 4) as usize,
     }
+}
+
+// The first slot of the winner's node; 0 where there is no winner.
+pub fn winner_block(key: u64) -> usize
+    ensures { λ r. ⌜ (r ≡ winnerBlock key) × (r + 4 ≤ 32) ⌝ }
+{
+    if key == INVALID {
+        return 0;
+    }
+    if NO_FRAME <= key {
+        return 0;
+    }
+    let place = (key - 1) % 32;
+    4 * (place / 4) as usize
 }

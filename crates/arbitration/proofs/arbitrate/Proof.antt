@@ -3,7 +3,7 @@ use Prim.Native.Nat.{_+_, _*_}
 use Rattle.arbitration.proofs.Attached.{count-few}
 use Rattle.arbitration.proofs.Ends.{full-ended, used-up-ended, carried-ended}
 use Rattle.arbitration.proofs.Given.{place-small, four-frames}
-use Rattle.arbitration.specs.Winner.{heldAt}
+use Rattle.scan.specs.Winner.{heldAt}
 use Rattle.operation.proofs.Sizes.{head-small}
 use Rattle.operation.specs.Format.{lengthOf}
 use Rattle.outcome.proofs.Endings.{block-kept-ends}

@@ -3,7 +3,7 @@ use Prim.Native.Nat.{_+_, _-_, _*_}
 use Rattle.arbitration.proofs.Attached.{node-at}
 use Rattle.arbitration.proofs.Ends.{done-ended}
 use Rattle.arbitration.proofs.Given.{tellable, pending-at, place-small, winner-slot, four-frames}
-use Rattle.arbitration.specs.Winner.{heldAt}
+use Rattle.scan.specs.Winner.{heldAt}
 use Rattle.buffers.proofs.Offsets.{length-part}
 use Rattle.buffers.specs.Parts.{part}
 use Rattle.operation.specs.Format.{dataLength}

@@ -2,7 +2,7 @@
 use Prim.Native.Nat.{_+_, _≤_, _-_}
 use Rattle.arbitration.proofs.Moves.{data-next, data-end, data-length-kept}
 use Rattle.arbitration.specs.After.{payloadWithout}
-use Rattle.arbitration.specs.Winner.{heldAt}
+use Rattle.scan.specs.Winner.{heldAt}
 use Rattle.operation.specs.Format.{dataLength}
 use borrow.Author.Needs.{needs}
 use lib.ListN.{length}

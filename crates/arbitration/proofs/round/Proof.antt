@@ -4,7 +4,7 @@ use Rattle.arbitration.proofs.Attached.{count-few}
 use Rattle.arbitration.proofs.Ends.{wrong-ended, idle-ended, won-ended}
 use Rattle.arbitration.proofs.Given.{owner-small, first-drawn}
 use Rattle.arbitration.proofs.Wrong.{right-code}
-use Rattle.arbitration.specs.Drawn.{ownerOf}
+use Rattle.scan.specs.Winner.{ownerOf}
 use Rattle.outcome.proofs.Endings.{block-kept-ends}
 use Rattle.outcome.specs.declared.Outcome.the-variants.{BadInjection, Idle}
 use borrow.Author.Needs.{needs}
