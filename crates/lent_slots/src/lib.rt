@@ -1,9 +1,10 @@
 // The lent slots, one by one and all at once. These are for the bus crate above only: each has a requires that its caller must meet.
 ghost use mathlib.Core.Path.{_≡_};
-ghost use mathlib.Core.List.{[], _∷_};
+ghost use mathlib.Core.List.{[], _∷_, map};
 ghost use Prim.Native.Nat.{_<_, _+_, _≤_};
 ghost use lib.ListN.{length, getD, set};
 ghost use Rattle.slots.specs.Slots.{freeSlot, blockAt, setBlock};
+ghost use Rattle.slots.specs.declared.Slot.{Slot};
 use slots::Slot;
 
 pub fn get(slots: &[Slot], i: usize) -> Slot
@@ -37,6 +38,28 @@ pub fn block_at(slots: &[Slot], at: usize) -> [Slot; 4]
     let third = slots[at + 2];
     let fourth = slots[at + 3];
     block(first, second, third, fourth)
+}
+
+fn id_in(x: Slot) -> u32
+    ensures { λ r. ⌜ r ≡ x .id ⌝ }
+{
+    x.id
+}
+
+// The ID in each of the lent slots.
+pub fn ids(slots: &[Slot]) -> [u32; 32]
+    requires { ⌜ length (now slots) ≡ 32 ⌝ }
+    ensures { λ r. ⌜ r ≡ map (λ (x : Slot). x .id) (now (slots .entry)) ⌝ }
+{
+    let mut a = [0u32; 32];
+    let mut i: usize = 0;
+    while i < 32 {
+        let x = slots[i];
+        let id = id_in(x);
+        a[i] = id;
+        i += 1;
+    }
+    a
 }
 
 // Four slots into the lent ones, from a position on.
