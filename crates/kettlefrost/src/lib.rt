@@ -324,7 +324,8 @@ pub extern "C" fn kf_write(
 
 const SLOTS: usize = 32;
 
-// The calls of the bus: each loads the lent slots, calls the bus with the slots by value, and puts back the slots that changed.
+// The calls of the bus: each goes over the lent slots once, calls the bus with what it needs of them, and puts back the slots that
+// changed.
 
 #[no_mangle]
 pub extern "C" fn kf_start(slots: &mut [Slot], payload: &[u8], queues: &[u8], count: u32) -> Answer
@@ -353,8 +354,10 @@ pub extern "C" fn kf_submit(
     if slots.len() != SLOTS {
         return bus::wrong_memory(state);
     }
-    let a = lent_slots::load(slots);
-    let c = bus::submit(state, a, payload, queues, node, buffer);
+    let key = lent_scan::scan(slots, state);
+    let at = submission::first_slot(node);
+    let four = lent_slots::block_at(slots, at);
+    let c = bus::submit(state, key, four, payload, queues, node, buffer);
     lent_slots::put_block(slots, bus::position_changed(c), bus::block_changed(c));
     bus::answer_changed(c)
 }
@@ -374,8 +377,21 @@ pub extern "C" fn kf_round(
     if slots.len() != SLOTS {
         return bus::wrong_memory(state);
     }
-    let a = lent_slots::load(slots);
-    let c = bus::round(state, a, payload, queues, injected, code, detector);
+    let key = lent_scan::scan(slots, state);
+    let at = scan::winner_block(key);
+    let four = lent_slots::block_at(slots, at);
+    let ids = lent_slots::ids(slots);
+    let c = bus::round(
+        state,
+        key,
+        four,
+        ids,
+        payload,
+        queues,
+        injected,
+        code,
+        detector,
+    );
     lent_slots::put_block(slots, bus::position_changed(c), bus::block_changed(c));
     bus::answer_changed(c)
 }
@@ -396,7 +412,7 @@ pub extern "C" fn kf_collect(
     if slots.len() != SLOTS {
         return bus::wrong_memory(state);
     }
-    let a = lent_slots::load(slots);
-    let c = bus::collect(state, a, payload, queues, node, buffer);
+    let key = lent_scan::scan(slots, state);
+    let c = bus::collect(state, key, payload, queues, node, buffer);
     bus::answer_kept(c)
 }

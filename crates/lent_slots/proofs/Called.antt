@@ -4,6 +4,8 @@
 --     calls-none, calls-one, calls-two     a call of a function with no parameter, and with one or two that are plain
 --     loads        `load` of a `&[Slot]`
 --     loads-mut    `load` of a `&mut [Slot]`, which is lent as a `&[Slot]` for the call and comes back
+--     looks-none, looks-one     a call of a function that takes a `&[Slot]`, and one plain parameter behind it
+--     lends-mut, mut-back      a `&mut [Slot]` is lent as a `&[Slot]` for such a call, and comes back
 --     stores, puts-block       `store` and `put_block`, which use the `&mut [Slot]` up
 -- Assumes `Given`, and of each callee that it meets its contract.
 use mathlib.Core.Path.{_≡_, refl, sym, ap, subst, _∙_}
@@ -96,6 +98,17 @@ module _ {M : Type 1} (𝓤 : URA M) (H : Heap 𝓤) (A : Atoms 𝓤) where
   abbrev pub AskTwo : (R : RattleType) → R .Denot → Val → (R′ : RattleType) → R′ .Denot → Val → SProp 𝓤
   AskTwo R x v R′ x′ v′ = sep 𝓤 (sep 𝓤 (sem 𝓤 H A ftrue) (sem 𝓤 H A (fsep (R .own x (v ∷ [])) (fsep (R′ .own x′ (v′ ∷ [])) ftrue)))) (emp 𝓤)
 
+  -- the same of a function that takes lent slots too, for a share p of their lifetime, under a condition φ
+  module _ (κ : Lft) (p : Share) (b o : ℕ) (γ : GName) (ys : List Slot) (φ : Type 0) where
+    abbrev pub LooksNone : SProp 𝓤
+    LooksNone = sep 𝓤 (sep 𝓤 (sep 𝓤 (A .lft κ p) (sem 𝓤 H A ftrue)) (sem 𝓤 H A (fsep (ShrSlots κ b o γ ys) ftrue))) (fact 𝓤 φ)
+
+    abbrev pub LooksOne : (R : RattleType) → R .Denot → Val → SProp 𝓤
+    LooksOne R x v = sep 𝓤 (sep 𝓤 (sep 𝓤 (A .lft κ p) (sem 𝓤 H A ftrue)) (sem 𝓤 H A (fsep (ShrSlots κ b o γ ys) (fsep (R .own x (v ∷ [])) ftrue)))) (fact 𝓤 φ)
+
+  abbrev pub LookAnswers : (κ : Lft) (p : Share) (S : RattleType) → (S .Denot → SProp 𝓤) → Val → SProp 𝓤
+  LookAnswers κ p S Ens u = H .⇛ (ex 𝓤 (λ (r : S .Denot). sep 𝓤 (sep 𝓤 (sep 𝓤 (A .lft κ p) (sem 𝓤 H A ftrue)) (sem 𝓤 H A (S .own r (u ∷ [])))) (Ens r)))
+
   abbrev pub Answers : (S : RattleType) → (S .Denot → SProp 𝓤) → Val → SProp 𝓤
   Answers S Ens u = H .⇛ (ex 𝓤 (λ (r : S .Denot). sep 𝓤 (sep 𝓤 (sem 𝓤 H A ftrue) (sem 𝓤 H A (S .own r (u ∷ [])))) (Ens r)))
 
@@ -185,17 +198,59 @@ module _ {M : Type 1} {𝓤 : URA M} {H : Heap 𝓤} {A : Atoms 𝓤} {K : Type 
 
 module _ {M : Type 1} {𝓤 : URA M} {H : Heap 𝓤} {A : Atoms 𝓤} {K : Type 0} {W : Given 𝓤 H A} {Γ : List (Item 𝓤)} {E : Env 𝓤 H} {C : Calls 𝓤 H} {Λ : Loops 𝓤 H} {q : Post 𝓤 H}
     {xs : List Operand} {d : Place} {rest : Body} where
+  module _ {κ : Lft} {p : Share} {b o : ℕ} {γ : GName} (ys : List Slot) where
+    pub looks-none : K → {f : Name} → FmC 𝓤 H (W .laws) C → (φ : Type 0) → φ → (S : RattleType) (F : S .Denot → Type 0) (T : Ended) (κs : Lfts (T .signature .lifetimes)) (a : Args (T .signature) κs)
+        → ent 𝓤 (LooksNone 𝓤 H A κ p b o γ ys φ) (C f (sliceOf b o ys ∷ []) (LookAnswers 𝓤 H A κ p S (λ r. Said 𝓤 H A T κs a (F r))))
+        → Opds K W (raw (LooksNone 𝓤 H A κ p b o γ ys φ) ∷ Γ) E xs (sliceOf b o ys ∷ [])
+        → ((u : Val) (r : S .Denot) → F r → Is S r (u ∷ []) → Seq K W (‵ (flft κ p) ∷ Γ) (lands C Λ E d u rest q))
+        → Seq K W (‵ (ShrSlots κ b o γ ys) ∷ ‵ (flft κ p) ∷ Γ) (runs C Λ E (seq (call f xs d) rest) q)
+    looks-none t fm φ h S F T κs a known os k =
+        use2 W (raw (LooksNone 𝓤 H A κ p b o γ ys φ)) asked $
+        calls-from t fm (raw (LooksNone 𝓤 H A κ p b o γ ys φ)) (sliceOf b o ys ∷ []) (LookAnswers 𝓤 H A κ p S (λ r. Said 𝓤 H A T κs a (F r))) known os (λ u.
+        hears t tt S (‵ (flft κ p) ⊛ ‵ ftrue) F (λ r. said 𝓤 H A T κs a (F r)) u (λ r e is. split t $ move t (1 ∷ []) $ drop t $ k u r e is))
+      where
+        asked : ent 𝓤 (sep 𝓤 (sem 𝓤 H A (ShrSlots κ b o γ ys)) (A .lft κ p)) (LooksNone 𝓤 H A κ p b o γ ys φ)
+        asked =
+            qed W (‵ (ShrSlots κ b o γ ys) ∷ ‵ (flft κ p) ∷ []) ∵ says ! h $ nothing ! $ move ! (2 ∷ 0 ∷ []) $ join ! $ frame ! $ nothing ! $ move ! (1 ∷ 0 ∷ []) $ fjoin ! $ done !
+
+    pub looks-one : K → {f : Name} → FmC 𝓤 H (W .laws) C → (φ : Type 0) → φ → (R : RattleType) → Makes 𝓤 H A R (Is R) → (x : R .Denot) (v : Val) → Is R x (v ∷ [])
+        → (S : RattleType) (F : S .Denot → Type 0) (T : Ended) (κs : Lfts (T .signature .lifetimes)) (a : Args (T .signature) κs)
+        → ent 𝓤 (LooksOne 𝓤 H A κ p b o γ ys φ R x v) (C f (sliceOf b o ys ∷ v ∷ []) (LookAnswers 𝓤 H A κ p S (λ r. Said 𝓤 H A T κs a (F r))))
+        → Opds K W (raw (LooksOne 𝓤 H A κ p b o γ ys φ R x v) ∷ Γ) E xs (sliceOf b o ys ∷ v ∷ [])
+        → ((u : Val) (r : S .Denot) → F r → Is S r (u ∷ []) → Seq K W (‵ (flft κ p) ∷ Γ) (lands C Λ E d u rest q))
+        → Seq K W (‵ (ShrSlots κ b o γ ys) ∷ ‵ (flft κ p) ∷ Γ) (runs C Λ E (seq (call f xs d) rest) q)
+    looks-one t fm φ h R mk x v isx S F T κs a known os k =
+        use2 W (raw (LooksOne 𝓤 H A κ p b o γ ys φ R x v)) asked $
+        calls-from t fm (raw (LooksOne 𝓤 H A κ p b o γ ys φ R x v)) (sliceOf b o ys ∷ v ∷ []) (LookAnswers 𝓤 H A κ p S (λ r. Said 𝓤 H A T κs a (F r))) known os (λ u.
+        hears t tt S (‵ (flft κ p) ⊛ ‵ ftrue) F (λ r. said 𝓤 H A T κs a (F r)) u (λ r e is. split t $ move t (1 ∷ []) $ drop t $ k u r e is))
+      where
+        asked : ent 𝓤 (sep 𝓤 (sem 𝓤 H A (ShrSlots κ b o γ ys)) (A .lft κ p)) (LooksOne 𝓤 H A κ p b o γ ys φ R x v)
+        asked =
+            qed W (‵ (ShrSlots κ b o γ ys) ∷ ‵ (flft κ p) ∷ []) ∵ says ! h $ nothing ! $ move ! (2 ∷ 0 ∷ []) $ join ! $ frame ! $ nothing ! $
+            owned ! R (Is R) mk x (v ∷ []) isx $ fjoin ! $ move ! (1 ∷ 0 ∷ []) $ fjoin ! $ done !
+
+module _ {M : Type 1} {𝓤 : URA M} {H : Heap 𝓤} {A : Atoms 𝓤} {K : Type 0} {W : Given 𝓤 H A} {Γ : List (Item 𝓤)} {G : Goal 𝓤 H} {κ : Lft} {p : Share} {b o : ℕ} {γ : GName} (ys : List Slot) where
+  pub lends-mut : K → Soaks G
+      → ((ν : ℕ) (δ : GName) → Seq K W (‵ (ShrSlots (ν ∷ []) b o δ ys) ∷ ‵ (flft (ν ∷ []) fullShare) ∷ ‵ (LentShared T.the-row κ (ν ∷ []) p γ b o ys) ∷ Γ) G)
+      → Seq K W (‵ (MutSlots κ b o γ ys) ∷ ‵ (flft κ p) ∷ Γ) G
+  lends-mut t z k = lft-new t z (λ ν. move t (1 ∷ 2 ∷ []) $
+      use2 W (later (some (λ (δ : GName). ‵ (ShrSlots (ν ∷ []) b o δ ys) ⊛ ‵ (LentShared T.the-row κ (ν ∷ []) p γ b o ys)))) (lends-shared T.the-row κ (ν ∷ []) p γ b o ys 𝓤 H A W
+      (named 0) (named 0)) $ await t z $ pick t (λ δ. split t $ move t (0 ∷ 2 ∷ []) $ k ν δ))
+
+  pub mut-back : K → Soaks G → Room T.the-row (length ys) → {ν : ℕ}
+      → Step K W (‵ (MutSlots κ b o γ ys) ∷ ‵ (flft κ p) ∷ Γ) G (‵ (flft (ν ∷ []) fullShare) ∷ ‵ (LentShared T.the-row κ (ν ∷ []) p γ b o ys) ∷ Γ) G
+  mut-back t z room {ν} = step (λ k. lft-end t z $
+      use2 W (later (‵ (MutSlots κ b o γ ys) ⊛ ‵ (flft κ p))) (shared-back T.the-row κ (ν ∷ []) p γ b o ys 𝓤 H A W (named 0) (named 0) room) $ await t z $ split t $ k)
+
+module _ {M : Type 1} {𝓤 : URA M} {H : Heap 𝓤} {A : Atoms 𝓤} {K : Type 0} {W : Given 𝓤 H A} {Γ : List (Item 𝓤)} {E : Env 𝓤 H} {C : Calls 𝓤 H} {Λ : Loops 𝓤 H} {q : Post 𝓤 H}
+    {xs : List Operand} {d : Place} {rest : Body} where
   module _ (mem : Memory → SProp 𝓤) (run : Routine → Fun 𝓤) {κ : Lft} {p : Share} {b o : ℕ} {γ : GName} (ys : List Slot) where
     pub loads-mut : K → FmC 𝓤 H (W .laws) C → Triple 𝓤 (C #load) (Load 𝓤 H A mem run) → Room T.the-row (length ys) → length ys ≡ 32
         → ((ν : ℕ) (δ : GName) → Opds K W (raw (Load 𝓤 H A mem run .pre (toLoad 𝓤 H A mem run (ν ∷ []) fullShare b o δ ys)) ∷ ‵ (LentShared T.the-row κ (ν ∷ []) p γ b o ys)
         ∷ Γ) E xs (sliceOf b o ys ∷ []))
         → ((v : Val) → Is Slots ys (v ∷ []) → Seq K W (‵ (MutSlots κ b o γ ys) ∷ ‵ (flft κ p) ∷ Γ) (lands C Λ E d v rest q))
         → Seq K W (‵ (MutSlots κ b o γ ys) ∷ ‵ (flft κ p) ∷ Γ) (runs C Λ E (seq (call #load xs d) rest) q)
-    loads-mut t fm known room n32 os k = lft-new t tt (λ ν. move t (1 ∷ 2 ∷ []) $
-        use2 W (later (some (λ (δ : GName). ‵ (ShrSlots (ν ∷ []) b o δ ys) ⊛ ‵ (LentShared T.the-row κ (ν ∷ []) p γ b o ys)))) (lends-shared T.the-row κ (ν ∷ []) p γ b o ys 𝓤 H A W
-        (named 0) (named 0)) $ await t tt $ pick t (λ δ. split t $ move t (0 ∷ 2 ∷ []) $
-        loads mem run ys t fm known n32 (os ν δ) (λ v is. lft-end t tt $
-        use2 W (later (‵ (MutSlots κ b o γ ys) ⊛ ‵ (flft κ p))) (shared-back T.the-row κ (ν ∷ []) p γ b o ys 𝓤 H A W (named 0) (named 0) room) $ await t tt $ split t $ k v is)))
+    loads-mut t fm known room n32 os k = lends-mut ys t tt (λ ν δ. loads mem run ys t fm known n32 (os ν δ) (λ v is. mut-back ys t tt room $ k v is))
 
     pub stores : K → FmC 𝓤 H (W .laws) C → Triple 𝓤 (C #store) (Store 𝓤 H A mem run) → length ys ≡ 32 → (l : List Slot) (v : Val) → Is Slots l (v ∷ [])
         → Opds K W (raw (Store 𝓤 H A mem run .pre (toStore 𝓤 H A mem run κ p b o γ ys l v)) ∷ Γ) E xs (sliceOf b o ys ∷ v ∷ [])

@@ -55,7 +55,8 @@ use Rattle.outcome.specs.declared.Answer.{Answer}
 use Rattle.outcome.proofs.Answer as An
 use Rattle.bus.specs.Left.{left, leaves}
 use Rattle.kettlefrost.proofs.Answered.{says-both}
-use Rattle.kettlefrost.proofs.Rows.{IsState, answer-makes, answer-typed, state-makes, state-tells, state-typed, stateVal, stateVals}
+use Rattle.kettlefrost.proofs.Rows.{answer-makes, answer-typed}
+use Rattle.lent_scan.proofs.Values.{IsState, state-makes, state-tells, state-typed, stateVal, stateVals}
 use Rattle.kettlefrost.proofs.kf_collect as main
 use Rattle.kettlefrost.proofs.kf_collect.Symbol as main-def
 use Rattle.kettlefrost.proofs.kf_collect.Symbol.{name as #kf-collect}
