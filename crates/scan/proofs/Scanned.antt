@@ -116,6 +116,7 @@ module _ (s : State) (a : List Slot) where
     where
       n : ℕ
       n = entry j .pending
+
       go : (v : Bool) → validEntry (entry j) ≡ v
           → KeyIs (framesKey (cond v n 0) j (s .round) a (cond v key 0)) (ok && (v && validSlots n (4 * j) j 0 (s .round) a)) (bestOf a j 0 n w)
           × SmallIf (ok && (v && validSlots n (4 * j) j 0 (s .round) a)) (bestOf a j 0 n w)

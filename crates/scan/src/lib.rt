@@ -104,7 +104,10 @@ fn with_frame(r: Run, key: u64, accepted: u32) -> Run
     if key < r.key {
         return Run { key, low: accepted };
     }
-    Run { key: r.key, low: accepted }
+    Run {
+        key: r.key,
+        low: accepted,
+    }
 }
 
 // One more slot, p of node j.
@@ -113,7 +116,10 @@ pub fn step(r: Run, x: Slot, j: usize, p: usize, now: u32) -> Run
     ensures { λ t. ⌜ t ≡ stepOf r x j p now ⌝ }
 {
     if !bus_state::slot_is_valid(x, j as u8, r.low, now) {
-        return Run { key: INVALID, low: x.accepted };
+        return Run {
+            key: INVALID,
+            low: x.accepted,
+        };
     }
     with_frame(r, x.id as u64 * 32 + p as u64 + 1, x.accepted)
 }

@@ -20,32 +20,38 @@ returns : tie.Need-returns
 unfolding roundIn
 returns c =
     let f = c .before in
-    let g = f .before .before .before .args in
-    (λ a h.
-    let m = held (g .s) a (now (g .payload)) (now (g .queues)) in
-    block-kept-ends WrongMemory (g .s) a _ (now (g .payload)) (now (g .queues)) (sym (h .block) ∙ ap (blockAt a) (sym (f .winner-block .ensures .0)))
-    ∙ sym (ap ended (refused-memory m (rounded m (injectionFrom (g .injected) (g .code) (g .detector))) (wrong-payload m (ne-eqb _ _ (c .if1 .taken))))), f .winner-block .ensures .1)
+    let g = f .before .before .before .args in (
+      λ a h.
+          let m = held (g .s) a (now (g .payload)) (now (g .queues)) in
+          block-kept-ends WrongMemory (g .s) a _ (now (g .payload)) (now (g .queues)) (sym (h .block) ∙ ap (blockAt a) (sym (f .winner-block .ensures .0)))
+          ∙ sym (ap ended (refused-memory m (rounded m (injectionFrom (g .injected) (g .code) (g .detector))) (wrong-payload m (ne-eqb _ _ (c .if1 .taken))))),
+      f .winner-block .ensures .1,
+    )
 
 returns-2 : tie.Need-returns-2
 unfolding roundIn
 returns-2 c =
     let f = c .before .before in
-    let g = f .before .before .before .args in
-    (λ a h.
-    let m = held (g .s) a (now (g .payload)) (now (g .queues)) in
-    block-kept-ends WrongMemory (g .s) a _ (now (g .payload)) (now (g .queues)) (sym (h .block) ∙ ap (blockAt a) (sym (f .winner-block .ensures .0)))
-    ∙ sym (ap ended (refused-memory m (rounded m (injectionFrom (g .injected) (g .code) (g .detector))) (wrong-queues m (ne-eqb _ _ (c .if2 .taken))))), f .winner-block .ensures .1)
+    let g = f .before .before .before .args in (
+      λ a h.
+          let m = held (g .s) a (now (g .payload)) (now (g .queues)) in
+          block-kept-ends WrongMemory (g .s) a _ (now (g .payload)) (now (g .queues)) (sym (h .block) ∙ ap (blockAt a) (sym (f .winner-block .ensures .0)))
+          ∙ sym (ap ended (refused-memory m (rounded m (injectionFrom (g .injected) (g .code) (g .detector))) (wrong-queues m (ne-eqb _ _ (c .if2 .taken))))),
+      f .winner-block .ensures .1,
+    )
 
 returns-3 : tie.Need-returns-3
 unfolding roundIn
 returns-3 c =
     let d = c .before in
     let f = d .before .before in
-    let g = f .before .before .before .args in
-    (λ a h.
-    let m = held (g .s) a (now (g .payload)) (now (g .queues)) in
-    block-kept-ends Invalid (g .s) a _ (now (g .payload)) (now (g .queues)) (sym (h .block) ∙ ap (blockAt a) (sym (f .winner-block .ensures .0)))
-    ∙ sym (ap ended (refused-invalid m (rounded m (injectionFrom (g .injected) (g .code) (g .detector))) (lent m (h .scan .slots) (d .before .if1 .left) (d .if2 .left)) (invalid-by-key (h .scan) (c .if3 .taken)))), f .winner-block .ensures .1)
+    let g = f .before .before .before .args in (
+      λ a h.
+          let m = held (g .s) a (now (g .payload)) (now (g .queues)) in
+          block-kept-ends Invalid (g .s) a _ (now (g .payload)) (now (g .queues)) (sym (h .block) ∙ ap (blockAt a) (sym (f .winner-block .ensures .0)))
+          ∙ sym (ap ended (refused-invalid m (rounded m (injectionFrom (g .injected) (g .code) (g .detector))) (lent m (h .scan .slots) (d .before .if1 .left) (d .if2 .left)) (invalid-by-key (h .scan) (c .if3 .taken)))),
+      f .winner-block .ensures .1,
+    )
 
 winner-of-requires : tie.Need-winner-of-requires
 winner-of-requires c κs = omega (arith, c .if3 .left)
@@ -66,11 +72,13 @@ returns-4 c =
     let w = i .before in
     let x = w .before in
     let d = x .before in
-    let g = d .before .before .before .before .before .args in
-    (λ a h.
-    let m = held (g .s) a (now (g .payload)) (now (g .queues)) in
-    r .round .ensures .0 a (drawn h (x .if3 .left) (w .winner-of .ensures))
-    ∙ rw (i .injection-of .ensures) (sym (ap ended (passed m (rounded m (injectionFrom (g .injected) (g .code) (g .detector))) (lent m (h .scan .slots) (d .before .if1 .left) (d .if2 .left)) (valid-by-key (h .scan) (x .if3 .left))))), r .round .ensures .1 .1)
+    let g = d .before .before .before .before .before .args in (
+      λ a h.
+          let m = held (g .s) a (now (g .payload)) (now (g .queues)) in
+          r .round .ensures .0 a (drawn h (x .if3 .left) (w .winner-of .ensures))
+          ∙ rw (i .injection-of .ensures) (sym (ap ended (passed m (rounded m (injectionFrom (g .injected) (g .code) (g .detector))) (lent m (h .scan .slots) (d .before .if1 .left) (d .if2 .left)) (valid-by-key (h .scan) (x .if3 .left))))),
+      r .round .ensures .1 .1,
+    )
 
 pub round-spec : {M : Type 1} → statement M
 round-spec =

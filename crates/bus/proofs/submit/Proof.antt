@@ -18,32 +18,38 @@ returns : tie.Need-returns
 unfolding submitIn
 returns c =
     let f = c .before in
-    let g = f .before .before .before .before .args in
-    (λ a h b.
-    let m = held (g .s) a (now (g .payload)) (now (g .queues)) in
-    block-kept-ends WrongMemory (g .s) a _ (now (g .payload)) (now (g .queues)) (sym b ∙ ap (blockAt a) (sym (f .first-slot .ensures .0)))
-    ∙ sym (ap ended (refused-memory m (submitted m (g .node) (now (g .buffer))) (wrong-payload m (ne-eqb _ _ (c .if1 .taken))))), f .first-slot .ensures .1)
+    let g = f .before .before .before .before .args in (
+      λ a h b.
+          let m = held (g .s) a (now (g .payload)) (now (g .queues)) in
+          block-kept-ends WrongMemory (g .s) a _ (now (g .payload)) (now (g .queues)) (sym b ∙ ap (blockAt a) (sym (f .first-slot .ensures .0)))
+          ∙ sym (ap ended (refused-memory m (submitted m (g .node) (now (g .buffer))) (wrong-payload m (ne-eqb _ _ (c .if1 .taken))))),
+      f .first-slot .ensures .1,
+    )
 
 returns-2 : tie.Need-returns-2
 unfolding submitIn
 returns-2 c =
     let f = c .before .before in
-    let g = f .before .before .before .before .args in
-    (λ a h b.
-    let m = held (g .s) a (now (g .payload)) (now (g .queues)) in
-    block-kept-ends WrongMemory (g .s) a _ (now (g .payload)) (now (g .queues)) (sym b ∙ ap (blockAt a) (sym (f .first-slot .ensures .0)))
-    ∙ sym (ap ended (refused-memory m (submitted m (g .node) (now (g .buffer))) (wrong-queues m (ne-eqb _ _ (c .if2 .taken))))), f .first-slot .ensures .1)
+    let g = f .before .before .before .before .args in (
+      λ a h b.
+          let m = held (g .s) a (now (g .payload)) (now (g .queues)) in
+          block-kept-ends WrongMemory (g .s) a _ (now (g .payload)) (now (g .queues)) (sym b ∙ ap (blockAt a) (sym (f .first-slot .ensures .0)))
+          ∙ sym (ap ended (refused-memory m (submitted m (g .node) (now (g .buffer))) (wrong-queues m (ne-eqb _ _ (c .if2 .taken))))),
+      f .first-slot .ensures .1,
+    )
 
 returns-3 : tie.Need-returns-3
 unfolding submitIn
 returns-3 c =
     let d = c .before in
     let f = d .before .before in
-    let g = f .before .before .before .before .args in
-    (λ a h b.
-    let m = held (g .s) a (now (g .payload)) (now (g .queues)) in
-    block-kept-ends Invalid (g .s) a _ (now (g .payload)) (now (g .queues)) (sym b ∙ ap (blockAt a) (sym (f .first-slot .ensures .0)))
-    ∙ sym (ap ended (refused-invalid m (submitted m (g .node) (now (g .buffer))) (lent m (h .slots) (d .before .if1 .left) (d .if2 .left)) (invalid-by-key h (c .if3 .taken)))), f .first-slot .ensures .1)
+    let g = f .before .before .before .before .args in (
+      λ a h b.
+          let m = held (g .s) a (now (g .payload)) (now (g .queues)) in
+          block-kept-ends Invalid (g .s) a _ (now (g .payload)) (now (g .queues)) (sym b ∙ ap (blockAt a) (sym (f .first-slot .ensures .0)))
+          ∙ sym (ap ended (refused-invalid m (submitted m (g .node) (now (g .buffer))) (lent m (h .slots) (d .before .if1 .left) (d .if2 .left)) (invalid-by-key h (c .if3 .taken)))),
+      f .first-slot .ensures .1,
+    )
 
 submit-requires : tie.Need-submit-requires
 submit-requires c κs =
@@ -58,11 +64,13 @@ returns-4 c =
     let w = c .before .before .before .before in
     let x = w .before .before .before in
     let d = x .before in
-    let g = d .before .before .before .before .before .before .args in
-    (λ a h b.
-    let m = held (g .s) a (now (g .payload)) (now (g .queues)) in
-    w .submit .ensures .0 a (ap (blockAt a) (w .submit .ensures .1 .0) ∙ b)
-    ∙ sym (ap ended (passed m (submitted m (g .node) (now (g .buffer))) (lent m (h .slots) (d .before .if1 .left) (d .if2 .left)) (valid-by-key h (x .if3 .left)))), w .submit .ensures .1 .1)
+    let g = d .before .before .before .before .before .before .args in (
+      λ a h b.
+          let m = held (g .s) a (now (g .payload)) (now (g .queues)) in
+          w .submit .ensures .0 a (ap (blockAt a) (w .submit .ensures .1 .0) ∙ b)
+          ∙ sym (ap ended (passed m (submitted m (g .node) (now (g .buffer))) (lent m (h .slots) (d .before .if1 .left) (d .if2 .left)) (valid-by-key h (x .if3 .left)))),
+      w .submit .ensures .1 .1,
+    )
 
 pub submit-spec : {M : Type 1} → statement M
 submit-spec =

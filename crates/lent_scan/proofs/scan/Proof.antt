@@ -232,12 +232,12 @@ module _ {M : Type 1} (𝓤 : URA M) (H : Heap 𝓤) (A : Atoms 𝓤) (W : Given
 
         abbrev At : Upto → List (Item 𝓤)
         At t = ‵ (froom EntryTy l₁₆ 0) ∷ ‵ (fdies EntryTy l₁₆) ∷ ‵ (froom tyPtr l₁₅ 0) ∷ ‵ (fdies tyPtr l₁₅) ∷ ‵ (froom tyPtr l₁₄ 0) ∷ ‵ (fdies tyPtr l₁₄) ∷
-          ‵ (froom word l₁₃ 0) ∷ ‵ (fdies word l₁₃) ∷ ‵ (froom tyBool l₁₂ 0) ∷ ‵ (fdies tyBool l₁₂) ∷ ‵ (fat fullShare EntriesTy l₁₁ 0 v₅) ∷
-          ‵ (fdies EntriesTy l₁₁) ∷ ‵ (froom word l₁₀ 0) ∷ ‵ (fdies word l₁₀) ∷ ‵ (froom word l₉ 0) ∷ ‵ (fdies word l₉) ∷ ‵ (froom EntryTy l₈ 0) ∷
-          ‵ (fdies EntryTy l₈) ∷ ‵ (fat fullShare word l₇ 0 (vint w64 (t .j))) ∷ ‵ (fdies word l₇) ∷ ‵ (fat fullShare word l₆ 0 (t .v)) ∷ ‵ (fdies word l₆) ∷
-          ‵ (row N.the-row fullShare nodes l₅ 0) ∷ ‵ (fdies EntriesTy l₅) ∷ ‵ (fat fullShare (tyInt w32) l₄ 0 v₄) ∷ ‵ (fdies (tyInt w32) l₄) ∷
-          ‵ (fat fullShare word l₃ 0 (vint w64 count)) ∷ ‵ (fdies word l₃) ∷ ‵ (fat fullShare StateTy l₂ 0 (stateVal s)) ∷ ‵ (fdies StateTy l₂) ∷
-          ‵ (fat fullShare SliceTy l₁ 0 sl) ∷ ‵ (fdies SliceTy l₁) ∷ ‵ (froom word l₀ 0) ∷ ‵ (fdies word l₀) ∷ ‵ (flft κ q) ∷ ‵ Own ∷ []
+            ‵ (froom word l₁₃ 0) ∷ ‵ (fdies word l₁₃) ∷ ‵ (froom tyBool l₁₂ 0) ∷ ‵ (fdies tyBool l₁₂) ∷ ‵ (fat fullShare EntriesTy l₁₁ 0 v₅) ∷
+            ‵ (fdies EntriesTy l₁₁) ∷ ‵ (froom word l₁₀ 0) ∷ ‵ (fdies word l₁₀) ∷ ‵ (froom word l₉ 0) ∷ ‵ (fdies word l₉) ∷ ‵ (froom EntryTy l₈ 0) ∷
+            ‵ (fdies EntryTy l₈) ∷ ‵ (fat fullShare word l₇ 0 (vint w64 (t .j))) ∷ ‵ (fdies word l₇) ∷ ‵ (fat fullShare word l₆ 0 (t .v)) ∷ ‵ (fdies word l₆) ∷
+            ‵ (row N.the-row fullShare nodes l₅ 0) ∷ ‵ (fdies EntriesTy l₅) ∷ ‵ (fat fullShare (tyInt w32) l₄ 0 v₄) ∷ ‵ (fdies (tyInt w32) l₄) ∷
+            ‵ (fat fullShare word l₃ 0 (vint w64 count)) ∷ ‵ (fdies word l₃) ∷ ‵ (fat fullShare StateTy l₂ 0 (stateVal s)) ∷ ‵ (fdies StateTy l₂) ∷
+            ‵ (fat fullShare SliceTy l₁ 0 sl) ∷ ‵ (fdies SliceTy l₁) ∷ ‵ (froom word l₀ 0) ∷ ‵ (fdies word l₀) ∷ ‵ (flft κ q) ∷ ‵ Own ∷ []
 
         abbrev Turned : Upto → Out → SProp 𝓤
         Turned t = afterTurn 𝓤 H (Below 𝓤 H A Nearer At t) (afterBlock 𝓤 H (afterSeq 𝓤 H (Wp 𝓤 H C Λ En Mir.t-8 (atReturn 𝓤 H En Post)) (atReturn 𝓤 H En Post)))
@@ -245,54 +245,54 @@ module _ {M : Type 1} (𝓤 : URA M) (H : Heap 𝓤) (A : Atoms 𝓤) (W : Given
         turns : (t : Upto) → Sq W (At t) (runs C Λ En Mir.turn-1 (anyQ (Turned t)))
         unfolding afterTurn
         turns t =
-          let j = t .j in
-          let key = t .key in
-          let v = t .v in
-          let gs = t .is in
-          assigns ! (bin ! (load ! (from ! (stop !)) (look ! 18 refl)) (load ! (from ! (stop !)) (look ! 26 refl)) tt) (from ! (stop !)) (init ! 8 refl (tt, tt)) $
-          first ! $ branches ! (load ! (from ! (stop !)) (look ! 8 refl))
-          (λ less.
-          let lt : j < count = ltb→lt j count less in
-          let j8 : j < 8 = omega arith in
-          let hj : j < length nodes = omega (arith, n8) in
-          let wide : j * 20 < 2 ^ 64 = omega arith in
-          let fits : j + 1 < 2 ^ 64 = omega arith in
-          let le : j + 1 ≤ count = omega arith in
-          let dec : count - (j + 1) < count - j = omega arith in
-          skips ! $ exec ! C Λ En more (anyQ (Turned t)) $
-          assigns ! (bin ! (load ! (from ! (stop !)) (look ! 18 refl)) (lit ! tt) (record { fits = wide })) (from ! (stop !)) (init ! 6 refl (tt, record { fits = wide })) $
-          assigns ! (addr ! (from ! (stop !))) (from ! (stop !)) (init ! 4 refl (tt, tt)) $
-          assigns ! (bin ! (load ! (from ! (stop !)) (look ! 4 refl)) (load ! (from ! (stop !)) (look ! 6 refl)) tt) (from ! (stop !)) (init ! 2 refl (tt, tt)) $
-          rewrite ! 2 (λ (p : ℕ). ‵ (fat fullShare tyPtr l₁₅ 0 (vptr l₅ p))) (sym (place-is 20 0 j)) refl $
-          -- entry j is taken out of the row of the local, read whole, and put back
-          move ! (22 ∷ []) $
-          elem-out ! N.the-row (Is N.the-row) (shows 𝓤 H A N.the-row) entryVals entry-tells fullShare nodes j noNode l₅ 0 hj (λ g.
-          assigns ! (of-opd ! (load ! (from ! (hop ! (look ! 5 refl) (stop !))) (look-raw ! 0 refl))) (from ! (stop !)) (init ! 3 refl (entry-typed W (entry j) _ g)) $
-          elem-back ! N.the-row fullShare nodes j noNode (entryVal (entry j) ∷ []) l₅ 0 hj $
-          assigns ! (of-opd ! (load ! (from ! (stop !)) (look ! 1 refl))) (from ! (stop !)) (init ! 17 refl (entry-typed W (entry j) _ g)) $
-          -- `entry_key`, `frame_count`, `frames_key`
-          calls-two ! fm N.the-row (entry-makes 𝓤 H A) (entry j) (entryVal (entry j)) g u64 (uint-makes 𝓤 H A W w64) key v gs u64 (λ (k : ℕ). k ≡ entryKey (entry j) key) entry-key.ended tt (entry j, (key, tt)) (known-entry ((tt, tt, tt, (entry j, (key, tt)), (entryVal (entry j) ∷ [], (v ∷ [], tt))), tt)) (and-then ! (load ! (from ! (stop !)) (look ! 18 refl)) (and-then ! (load ! (from ! (stop !)) (look ! 22 refl)) (no-more !))) (λ v₁ k₁ e₁ is₁.
-          land ! (from ! (stop !)) (init ! 15 refl (word-typed W k₁ v₁ is₁)) $
-          calls-one ! fm N.the-row (entry-makes 𝓤 H A) (entry j) (entryVal (entry j)) g usize (λ (c : ℕ). (c ≡ frameCount (entry j)) × (c ≤ 4)) frame-count.ended tt (entry j, tt) (known-count ((tt, tt, tt, (entry j, tt), (entryVal (entry j) ∷ [], tt)), tt)) (and-then ! (load ! (from ! (stop !)) (look ! 18 refl)) (no-more !)) (λ v₂ c e₂ is₂.
-          land ! (from ! (stop !)) (init ! 13 refl (word-typed W c v₂ is₂)) $ move ! (35 ∷ []) $
-          use1 W (‵ Own ⊛ ‵ Own) (shr-slice-copy 𝓤 H A W (named 0) κ T.the-row .twice x (sl ∷ [])) $ split ! $ move ! (1 ∷ 36 ∷ []) $
-          use2 W (raw (Frames 𝓤 H A mem run .pre (to-frames k₁ v₁ c v₂ j r₄ v₄))) (goes-frames k₁ v₁ is₁ c v₂ is₂ (e₂ .1) j j8 r₄ v₄ is₄) $
-          calls-at ! fm (Frames 𝓤 H A mem run) known-frames (to-frames k₁ v₁ c v₂ j r₄ v₄) (and-then ! (load ! (from ! (stop !)) (look ! 32 refl)) (and-then ! (load ! (from ! (stop !)) (look ! 17 refl)) (and-then ! (load ! (from ! (stop !)) (look ! 15 refl)) (and-then ! (load ! (from ! (stop !)) (look ! 21 refl)) (and-then ! (load ! (from ! (stop !)) (look ! 26 refl)) (no-more !)))))) (λ u.
-          hears ! tt u64 (‵ (flft κ q) ⊛ ‵ ftrue) (λ k. k ≡ framesKey c j r₄ ys k₁) (λ k. said 𝓤 H A frames.ended (κ, tt) (frames-args k₁ c j r₄) (k ≡ framesKey c j r₄ ys k₁)) u (λ k e is.
-          land ! (from ! (stop !)) (store ! 23 refl (word-typed W k u is)) $ move ! (0 ∷ []) $ split ! $ move ! (1 ∷ []) $ drop ! $
-          assigns-last ! (bin ! (load ! (from ! (stop !)) (look ! 21 refl)) (lit ! tt) (record { fits = fits })) (from ! (stop !)) (store ! 21 refl (tt, record { fits = fits })) $
-          forget ! 19 refl $ forget ! 17 refl $ forget ! 15 refl $ forget ! 11 refl $ forget ! 9 refl $ forget ! 7 refl $ forget ! 5 refl $ forget ! 3 refl $
-          keep ! (3 ∷ 4 ∷ 5 ∷ 6 ∷ 7 ∷ 8 ∷ 9 ∷ 10 ∷ 11 ∷ 12 ∷ 13 ∷ 14 ∷ 15 ∷ 16 ∷ 17 ∷ 18 ∷ 19 ∷ 20 ∷ 21 ∷ 22 ∷ 23 ∷ 24 ∷ 2 ∷ 25 ∷ 26 ∷ 27 ∷ 28 ∷ 29 ∷ 30 ∷ 31 ∷ 32 ∷ 33 ∷ 34 ∷ 35 ∷ 0 ∷ 1 ∷ []) $
-          again ! Nearer At t (record { j = j + 1; key = k; v = u; le = le; rest = goes-on j key k₁ c k lt e₁ (e₂ .0) e (t .rest); is = is }) dec))))))
-          (λ over.
-          jumps ! $ exec ! C Λ En Mir.t-8 (atRet En Post) $
-          assigns ! (of-opd ! (load ! (from ! (stop !)) (look ! 20 refl))) (from ! (stop !)) (init ! 32 refl (word-typed W key v gs)) $ move ! (22 ∷ []) $
-          use1 W (some (λ (z : Val). ‵ (fat fullShare EntriesTy l₅ 0 z) ⊛ ‵ (Entries .own nodes (z ∷ [])))) (row-in N.the-row tt 8 𝓤 H A W l₅ nodes n8) $ pick ! (λ z. split ! $
-          returns ! (look ! 33 refl) $
-          forget ! 10 refl $ forget ! 12 refl $ forget ! 20 refl $ forget ! 22 refl $ forget ! 0 refl $ forget ! 25 refl $ forget ! 27 refl $ forget ! 29 refl $ forget ! 31 refl $ forget ! 33 refl $
-          move ! (33 ∷ 34 ∷ []) $ free1 ! $ move ! (31 ∷ 32 ∷ []) $ free1 ! $ move ! (29 ∷ 30 ∷ []) $ free1 ! $ move ! (27 ∷ 28 ∷ []) $ free1 ! $ move ! (25 ∷ 26 ∷ []) $ free1 ! $ move ! (0 ∷ 24 ∷ []) $ free1 ! $ move ! (21 ∷ 22 ∷ []) $ free1 ! $ move ! (19 ∷ 20 ∷ []) $ free1 ! $ move ! (17 ∷ 18 ∷ []) $ free1 ! $ move ! (15 ∷ 16 ∷ []) $ free1 ! $ move ! (13 ∷ 14 ∷ []) $ free1 ! $ move ! (11 ∷ 12 ∷ []) $ free1 ! $ move ! (9 ∷ 10 ∷ []) $ free1 ! $ move ! (7 ∷ 8 ∷ []) $ free1 ! $ move ! (5 ∷ 6 ∷ []) $ free1 ! $ move ! (3 ∷ 4 ∷ []) $ free1 ! $ move ! (1 ∷ 2 ∷ []) $ free1 ! $ free0 ! $
-          keep ! (1 ∷ 2 ∷ []) $
-          by ! (exits key v gs (sym (nodes-end s ys j count key (nltb→le j count over)) ∙ t .rest))))
+            let j = t .j in
+            let key = t .key in
+            let v = t .v in
+            let gs = t .is in
+            assigns ! (bin ! (load ! (from ! (stop !)) (look ! 18 refl)) (load ! (from ! (stop !)) (look ! 26 refl)) tt) (from ! (stop !)) (init ! 8 refl (tt, tt)) $
+            first ! $ branches ! (load ! (from ! (stop !)) (look ! 8 refl))
+            (λ less.
+            let lt : j < count = ltb→lt j count less in
+            let j8 : j < 8 = omega arith in
+            let hj : j < length nodes = omega (arith, n8) in
+            let wide : j * 20 < 2 ^ 64 = omega arith in
+            let fits : j + 1 < 2 ^ 64 = omega arith in
+            let le : j + 1 ≤ count = omega arith in
+            let dec : count - (j + 1) < count - j = omega arith in
+            skips ! $ exec ! C Λ En more (anyQ (Turned t)) $
+            assigns ! (bin ! (load ! (from ! (stop !)) (look ! 18 refl)) (lit ! tt) (record { fits = wide })) (from ! (stop !)) (init ! 6 refl (tt, record { fits = wide })) $
+            assigns ! (addr ! (from ! (stop !))) (from ! (stop !)) (init ! 4 refl (tt, tt)) $
+            assigns ! (bin ! (load ! (from ! (stop !)) (look ! 4 refl)) (load ! (from ! (stop !)) (look ! 6 refl)) tt) (from ! (stop !)) (init ! 2 refl (tt, tt)) $
+            rewrite ! 2 (λ (p : ℕ). ‵ (fat fullShare tyPtr l₁₅ 0 (vptr l₅ p))) (sym (place-is 20 0 j)) refl $
+            -- entry j is taken out of the row of the local, read whole, and put back
+            move ! (22 ∷ []) $
+            elem-out ! N.the-row (Is N.the-row) (shows 𝓤 H A N.the-row) entryVals entry-tells fullShare nodes j noNode l₅ 0 hj (λ g.
+            assigns ! (of-opd ! (load ! (from ! (hop ! (look ! 5 refl) (stop !))) (look-raw ! 0 refl))) (from ! (stop !)) (init ! 3 refl (entry-typed W (entry j) _ g)) $
+            elem-back ! N.the-row fullShare nodes j noNode (entryVal (entry j) ∷ []) l₅ 0 hj $
+            assigns ! (of-opd ! (load ! (from ! (stop !)) (look ! 1 refl))) (from ! (stop !)) (init ! 17 refl (entry-typed W (entry j) _ g)) $
+            -- `entry_key`, `frame_count`, `frames_key`
+            calls-two ! fm N.the-row (entry-makes 𝓤 H A) (entry j) (entryVal (entry j)) g u64 (uint-makes 𝓤 H A W w64) key v gs u64 (λ (k : ℕ). k ≡ entryKey (entry j) key) entry-key.ended tt (entry j, (key, tt)) (known-entry ((tt, tt, tt, (entry j, (key, tt)), (entryVal (entry j) ∷ [], (v ∷ [], tt))), tt)) (and-then ! (load ! (from ! (stop !)) (look ! 18 refl)) (and-then ! (load ! (from ! (stop !)) (look ! 22 refl)) (no-more !))) (λ v₁ k₁ e₁ is₁.
+            land ! (from ! (stop !)) (init ! 15 refl (word-typed W k₁ v₁ is₁)) $
+            calls-one ! fm N.the-row (entry-makes 𝓤 H A) (entry j) (entryVal (entry j)) g usize (λ (c : ℕ). (c ≡ frameCount (entry j)) × (c ≤ 4)) frame-count.ended tt (entry j, tt) (known-count ((tt, tt, tt, (entry j, tt), (entryVal (entry j) ∷ [], tt)), tt)) (and-then ! (load ! (from ! (stop !)) (look ! 18 refl)) (no-more !)) (λ v₂ c e₂ is₂.
+            land ! (from ! (stop !)) (init ! 13 refl (word-typed W c v₂ is₂)) $ move ! (35 ∷ []) $
+            use1 W (‵ Own ⊛ ‵ Own) (shr-slice-copy 𝓤 H A W (named 0) κ T.the-row .twice x (sl ∷ [])) $ split ! $ move ! (1 ∷ 36 ∷ []) $
+            use2 W (raw (Frames 𝓤 H A mem run .pre (to-frames k₁ v₁ c v₂ j r₄ v₄))) (goes-frames k₁ v₁ is₁ c v₂ is₂ (e₂ .1) j j8 r₄ v₄ is₄) $
+            calls-at ! fm (Frames 𝓤 H A mem run) known-frames (to-frames k₁ v₁ c v₂ j r₄ v₄) (and-then ! (load ! (from ! (stop !)) (look ! 32 refl)) (and-then ! (load ! (from ! (stop !)) (look ! 17 refl)) (and-then ! (load ! (from ! (stop !)) (look ! 15 refl)) (and-then ! (load ! (from ! (stop !)) (look ! 21 refl)) (and-then ! (load ! (from ! (stop !)) (look ! 26 refl)) (no-more !)))))) (λ u.
+            hears ! tt u64 (‵ (flft κ q) ⊛ ‵ ftrue) (λ k. k ≡ framesKey c j r₄ ys k₁) (λ k. said 𝓤 H A frames.ended (κ, tt) (frames-args k₁ c j r₄) (k ≡ framesKey c j r₄ ys k₁)) u (λ k e is.
+            land ! (from ! (stop !)) (store ! 23 refl (word-typed W k u is)) $ move ! (0 ∷ []) $ split ! $ move ! (1 ∷ []) $ drop ! $
+            assigns-last ! (bin ! (load ! (from ! (stop !)) (look ! 21 refl)) (lit ! tt) (record { fits = fits })) (from ! (stop !)) (store ! 21 refl (tt, record { fits = fits })) $
+            forget ! 19 refl $ forget ! 17 refl $ forget ! 15 refl $ forget ! 11 refl $ forget ! 9 refl $ forget ! 7 refl $ forget ! 5 refl $ forget ! 3 refl $
+            keep ! (3 ∷ 4 ∷ 5 ∷ 6 ∷ 7 ∷ 8 ∷ 9 ∷ 10 ∷ 11 ∷ 12 ∷ 13 ∷ 14 ∷ 15 ∷ 16 ∷ 17 ∷ 18 ∷ 19 ∷ 20 ∷ 21 ∷ 22 ∷ 23 ∷ 24 ∷ 2 ∷ 25 ∷ 26 ∷ 27 ∷ 28 ∷ 29 ∷ 30 ∷ 31 ∷ 32 ∷ 33 ∷ 34 ∷ 35 ∷ 0 ∷ 1 ∷ []) $
+            again ! Nearer At t (record { j = j + 1; key = k; v = u; le = le; rest = goes-on j key k₁ c k lt e₁ (e₂ .0) e (t .rest); is = is }) dec))))))
+            (λ over.
+            jumps ! $ exec ! C Λ En Mir.t-8 (atRet En Post) $
+            assigns ! (of-opd ! (load ! (from ! (stop !)) (look ! 20 refl))) (from ! (stop !)) (init ! 32 refl (word-typed W key v gs)) $ move ! (22 ∷ []) $
+            use1 W (some (λ (z : Val). ‵ (fat fullShare EntriesTy l₅ 0 z) ⊛ ‵ (Entries .own nodes (z ∷ [])))) (row-in N.the-row tt 8 𝓤 H A W l₅ nodes n8) $ pick ! (λ z. split ! $
+            returns ! (look ! 33 refl) $
+            forget ! 10 refl $ forget ! 12 refl $ forget ! 20 refl $ forget ! 22 refl $ forget ! 0 refl $ forget ! 25 refl $ forget ! 27 refl $ forget ! 29 refl $ forget ! 31 refl $ forget ! 33 refl $
+            move ! (33 ∷ 34 ∷ []) $ free1 ! $ move ! (31 ∷ 32 ∷ []) $ free1 ! $ move ! (29 ∷ 30 ∷ []) $ free1 ! $ move ! (27 ∷ 28 ∷ []) $ free1 ! $ move ! (25 ∷ 26 ∷ []) $ free1 ! $ move ! (0 ∷ 24 ∷ []) $ free1 ! $ move ! (21 ∷ 22 ∷ []) $ free1 ! $ move ! (19 ∷ 20 ∷ []) $ free1 ! $ move ! (17 ∷ 18 ∷ []) $ free1 ! $ move ! (15 ∷ 16 ∷ []) $ free1 ! $ move ! (13 ∷ 14 ∷ []) $ free1 ! $ move ! (11 ∷ 12 ∷ []) $ free1 ! $ move ! (9 ∷ 10 ∷ []) $ free1 ! $ move ! (7 ∷ 8 ∷ []) $ free1 ! $ move ! (5 ∷ 6 ∷ []) $ free1 ! $ move ! (3 ∷ 4 ∷ []) $ free1 ! $ move ! (1 ∷ 2 ∷ []) $ free1 ! $ free0 ! $
+            keep ! (1 ∷ 2 ∷ []) $
+            by ! (exits key v gs (sym (nodes-end s ys j count key (nltb→le j count over)) ∙ t .rest))))
 
     walk : ent 𝓤 (onEntry 𝓤 H A pass.signature (κ, tt) (q, tt) arg at) (WpFn 𝓤 H C Λ code.function (sl ∷ stateVal s ∷ []) Post)
     walk =
