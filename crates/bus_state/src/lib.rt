@@ -5,7 +5,7 @@ ghost use Rattle.operation.specs.Rules.{oneOf, behaviours};
 ghost use lib.ListN.{set};
 ghost use Rattle.bus_state.specs.Memory.{nodeState};
 ghost use Rattle.bus_state.specs.Entries.{withEntry, entryStatus, entryBehaviour, entryRates, entryFill, entryPending};
-ghost use Rattle.bus_state.specs.Valid.{nonZero, validEntry, validSlot, validSlots, validNode, validState};
+ghost use Rattle.bus_state.specs.Valid.{nonZero, validEntry, validSlot};
 use slots::Slot;
 
 // What is held of one node besides its frames and its queue's bytes: its pending frames are slots 4j to 4j + pending - 1 of node j,
@@ -80,42 +80,6 @@ pub fn slot_is_valid(s: Slot, owner: u8, low: u32, now: u32) -> bool
         return false;
     }
     slots::is_legal(s)
-}
-
-// Whether a state with its slots is valid (01: sound).
-pub fn is_valid(s: State, a: [Slot; 32]) -> bool
-    ensures { λ r. ⌜ r ≡ validState s a ⌝ }
-{
-    let count = s.count;
-    if count < 2 {
-        return false;
-    }
-    if 8 < count {
-        return false;
-    }
-    let now = s.round;
-    let nodes = s.nodes;
-    let mut j: u32 = 0;
-    while j < count {
-        let d = nodes[j as usize];
-        if !entry_is_valid(d) {
-            return false;
-        }
-        let first = 4 * j as usize;
-        let end = first + d.pending as usize;
-        let mut low: u32 = 0;
-        let mut p = first;
-        while p < end {
-            let held = a[p];
-            if !slot_is_valid(held, j as u8, low, now) {
-                return false;
-            }
-            low = held.accepted;
-            p += 1;
-        }
-        j += 1;
-    }
-    true
 }
 
 // Reading and setting one entry and its fields, for the crates above: what is asked of j they must meet.

@@ -52,12 +52,12 @@ pub fn ids(slots: &[Slot]) -> [u32; 32]
     ensures { λ r. ⌜ r ≡ map (λ (x : Slot). x .id) (now (slots .entry)) ⌝ }
 {
     let mut a = [0u32; 32];
-    let mut i: usize = 0;
-    while i < 32 {
-        let x = slots[i];
+    let mut p: usize = 0;
+    while p < 32 {
+        let x = slots[p];
         let id = id_in(x);
-        a[i] = id;
-        i += 1;
+        a[p] = id;
+        p += 1;
     }
     a
 }

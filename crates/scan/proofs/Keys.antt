@@ -6,6 +6,7 @@ use Prim.Native.Nat.{ℕ, _+_, _*_, _-_, _/_, _%_, _≤_, _<_}
 use native.Mathlib.Omega.{arith}
 use lib.Dec.{leb, ltb, eqb}
 use borrow.Author.Tests.{lt-leb, lt-ltb, le-ltb, ltb-true, ltb-false, eqb-true, eqb-false, ne-eqb}
+use Rattle.operation.proofs.Tests.{false-is-true}
 use Rattle.plain_bus.specs.Order.{lowerOr}
 use Rattle.scan.specs.declared.Winner.{Winner}
 use Rattle.scan.specs.declared.Winner.the-variants.{Nobody, First}
@@ -27,6 +28,13 @@ a-frame (First r₁ o₁ p₁) r o p s h ho hp e =
     let b : o ≡ o₁ = omega (arith, s .1, s .2) in
     let c : p ≡ p₁ = omega (arith, s .1, s .2) in
     rw (a, b, c)
+
+pub some-key : (k : ℕ) → (eqb k 0 || leb noFrame k) ≡ false → 1 ≤ k
+some-key k e = go (eqb k 0) refl e
+  where
+    go : (t : Bool) → eqb k 0 ≡ t → (t || leb noFrame k) ≡ false → 1 ≤ k
+    go true q e = false-is-true (sym e)
+    go false q e = omega (arith, eqb-false k 0 q)
 
 frame-block : (r o p k : ℕ) → frameKey r (4 * o + p) ≡ k → r < 4_294_967_296 → o < 8 → p < 4 → winnerBlock k ≡ 4 * o
 unfolding winnerBlock

@@ -2,7 +2,7 @@
 -- Assumes nothing.
 use Prim.Native.Nat.{ℕ, zero, suc, _+_, _*_, _-_, _/_, _%_}
 use mathlib.Core.List.{List}
-use mathlib.Core.Bool.{cond, _&&_}
+use mathlib.Core.Bool.{cond, _&&_, _||_}
 use lib.Dec.{leb, ltb, eqb}
 use lib.ListN.{getD}
 use Rattle.slots.specs.Slots.{freeSlot}
@@ -31,7 +31,7 @@ keyOf (First rank owner position) = frameKey rank (slotsPerNode * owner + positi
 
 -- the first slot of the winner's node, by the key; 0 where there is no winner
 unfoldable pub winnerBlock : ℕ → ℕ
-winnerBlock key = cond (eqb key 0) 0 (cond (leb noFrame key) 0 (slotsPerNode * ((key - 1) % 32 / 4)))
+winnerBlock key = cond (eqb key 0 || leb noFrame key) 0 (slotsPerNode * ((key - 1) % 32 / 4))
 
 abbrev pub lowerOf : ℕ → ℕ → ℕ
 lowerOf a b = cond (ltb a b) a b

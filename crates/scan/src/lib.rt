@@ -151,10 +151,7 @@ pub fn winner_of(key: u64) -> Winner
 pub fn winner_block(key: u64) -> usize
     ensures { λ r. ⌜ (r ≡ winnerBlock key) × (r + 4 ≤ 32) ⌝ }
 {
-    if key == INVALID {
-        return 0;
-    }
-    if NO_FRAME <= key {
+    if (key == INVALID) | (NO_FRAME <= key) {
         return 0;
     }
     let place = (key - 1) % 32;
