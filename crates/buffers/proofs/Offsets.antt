@@ -5,7 +5,7 @@ use Prim.Native.Nat.{ℕ, _+_, _-_, _≤_, _<_}
 use native.Mathlib.Omega.{arith}
 use mathlib.Core.List.{List, _++_, append-assoc}
 use lib.ListN.{length, getD, take, drop, length-append, length-take, length-drop, take-append-drop}
-use lib.Seq.{take-append-seam, drop-at, take-append-le, drop-append-le, drop-append-add, drop-drop, length-take-le, take-add, paste, drop-paste, getD-take, getD-drop}
+use lib.Seq.{take-append-seam, drop-at, take-append-le, drop-append-le, drop-append-add, drop-drop, length-take-le, take-add, getD-take, getD-drop}
 use Rattle.buffers.specs.Parts.{part, over}
 
 pub length-part : (at n : ℕ) (l : List ℕ) → at + n ≤ length l → length (part at n l) ≡ n
@@ -62,16 +62,7 @@ over-grown at n xs l h =
     rw (part-add at n (length xs) (over l (at + n) xs), over-before (at + n) xs l h at n (omega arith), over-same (at + n) xs l h)
 
 -- where some of a part are laid over the bytes before it, the next one is still where it was
-pub next-kept : (d : List ℕ) (at from n i : ℕ) → at + n ≤ from → from + n ≤ length d → i < n
-    → getD (paste d at (part from n d) i) (from + i) 0 ≡ getD (part from n d) i 0
+-- an entry of a part
+pub part-at : (d : List ℕ) (from n i : ℕ) → i < n → getD (part from n d) i 0 ≡ getD d (from + i) 0
 unfolding part
-next-kept d at from n i h g l =
-    let s = part from n d in
-    let k : i ≤ length s = rw (length-part from n d g) (omega arith) in
-    let e : from + i ≡ at + i + (from - at) = omega arith in
-    ap (λ (j : ℕ). getD (paste d at s i) j 0) e
-    ∙ sym (getD-drop (at + i) (paste d at s i) (from - at) 0)
-    ∙ ap (λ (q : List ℕ). getD q (from - at) 0) (drop-paste d at s i (omega arith) k)
-    ∙ getD-drop (at + i) d (from - at) 0
-    ∙ ap (λ (j : ℕ). getD d j 0) (sym e)
-    ∙ sym (getD-take n (drop from d) i 0 l ∙ getD-drop from d i 0)
+part-at d from n i l = getD-take n (drop from d) i 0 l ∙ getD-drop from d i 0

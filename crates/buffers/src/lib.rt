@@ -43,14 +43,30 @@ pub fn put(buffer: &mut [u8], at: usize, bytes: &[u8])
     }
 }
 
-// Lays a part of a buffer over the bytes before it.
-pub fn shift(buffer: &mut [u8], at: usize, from: usize, n: usize)
-    requires { ⌜ (at + n ≤ from) × (from + n ≤ length (now buffer)) ⌝ }
-    ensures { λ _. ⌜ now (buffer .exit) ≡ over (now (buffer .entry)) at (part from n (now (buffer .entry))) ⌝ }
+// The same by way of a local array, for longer bytes: the compiler sees that the two do not overlap, and makes one move of it.
+pub fn put_long(buffer: &mut [u8], at: usize, bytes: &[u8])
+    requires { ⌜ (at + length (now bytes) ≤ length (now buffer)) × (length (now bytes) ≤ 4096) ⌝ }
+    ensures { λ _. ⌜ now (buffer .exit) ≡ over (now (buffer .entry)) at (now (bytes .entry)) ⌝ }
 {
+    let mut copy = [0u8; 4096];
     let mut i = 0;
-    while i < n {
-        buffer[at + i] = buffer[from + i];
+    while i < bytes.len() {
+        copy[i] = bytes[i];
         i += 1;
     }
+    put(buffer, at, &copy[..bytes.len()]);
+}
+
+// Lays a part of a buffer over the bytes before it, in the same way.
+pub fn shift(buffer: &mut [u8], at: usize, from: usize, n: usize)
+    requires { ⌜ (at + n ≤ from) × (from + n ≤ length (now buffer)) × (n ≤ 2048) ⌝ }
+    ensures { λ _. ⌜ now (buffer .exit) ≡ over (now (buffer .entry)) at (part from n (now (buffer .entry))) ⌝ }
+{
+    let mut copy = [0u8; 2048];
+    let mut i = 0;
+    while i < n {
+        copy[i] = buffer[from + i];
+        i += 1;
+    }
+    put(buffer, at, &copy[..n]);
 }

@@ -228,7 +228,7 @@ pub fn collect(
         };
     }
     let at = bus_state::QUEUE_CAPACITY as usize * k;
-    buffers::put(buffer, 0, &queues[at..at + fill]);
+    buffers::put_long(buffer, 0, &queues[at..at + fill]);
     let empty = bus_state::with_fill(d, 0);
     Kept {
         outcome: Outcome::Collected(d.fill),

@@ -12,8 +12,8 @@ use borrow.Author.Tests.{leb-true, eqb-true, le-leb, eq-eqb}
 use Rattle.operation.specs.Format.{headLength, dataLength, lengthOf, header, encode}
 use Rattle.operation.specs.Rules.{allAfter, rules, legal}
 use Rattle.operation.specs.declared.Operation.{Operation}
-use Rattle.operation.specs.declared.Operation.the-variants.{FormatError, Wakeup}
-use Rattle.operation.proofs.Tests.{both}
+use Rattle.operation.specs.declared.Operation.the-variants.{FormatError, XlTransmit, Wakeup}
+use Rattle.operation.proofs.Tests.{both, passed}
 use Rattle.operation.proofs.Sizes.{head-small, header-length, encode-length}
 use Rattle.encoder.specs.Writing.{decision, answerOf, bufferAfter, writtenOf}
 use Rattle.encoder.specs.declared.Written.{Written}
@@ -76,6 +76,11 @@ wakeup-lawful = refl
 -- an accepted write is short
 pub size-small : {op : Operation} {given room n : ℕ} → Accepted op given room n → n < 65558
 size-small {op} a = omega (arith, a .size, a .whole, a .short, head-small op)
+
+-- the data of a CAN XL frame
+pub xl-short : (id ide sec sdt vcid af dl : ℕ) → legal (XlTransmit id ide sec sdt vcid af dl) ≡ true → dl ≤ 2_048
+unfolding legal rules
+xl-short id ide sec sdt vcid af dl l = leb-true dl 2_048 (both (leb 1 dl) (leb dl 2_048) (passed _ l 3) .1)
 
 -- the header at the front and the data behind it are the operation, written
 pub written : (op : Operation) (payload l : List ℕ) {l₁ l₂ : List ℕ} {n : ℕ} → answerOf op (length payload) (length l) ≡ Done n

@@ -11,6 +11,7 @@ ghost use Rattle.operation.specs.Rules.{legal};
 ghost use Rattle.encoder.specs.Writing.{numberOf, decision, answerOf, writtenOf};
 ghost use Rattle.buffers.specs.Parts.{over};
 use buffers::put;
+use buffers::put_long;
 use buffers::put1;
 use buffers::put2;
 use buffers::put4;
@@ -255,7 +256,7 @@ pub fn write_xl(
     match answer {
         Written::Done(size) => {
             put_xl(buffer, size as u32, id, ide, sec, sdt, vcid, af, dl);
-            put(buffer, 22, payload);
+            put_long(buffer, 22, payload);
             answer
         }
         Written::RuleBroken => answer,

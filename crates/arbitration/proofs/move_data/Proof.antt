@@ -64,7 +64,7 @@ shift-requires c κs =
     let l = c .before .before .before .before .before .loop in
     let w = s .pre .1 (l .q + 1) (omega arith) (omega arith) .short in
     let n : c .before .data-length .result ≡ dataLength (heldAt (s .args .t2) (l .q + 1)) = c .before .data-length .ensures ∙ ap dataLength (c .before .before .held-in .ensures) in
-    (omega arith, omega arith)
+    (omega arith, omega arith, omega arith)
 
 add-q : tie.Need-add-q Inv-loop μ-loop
 add-q c = search needs

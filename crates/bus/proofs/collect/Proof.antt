@@ -85,8 +85,8 @@ returns-5 c =
     let room = length (now (g .buffer)) in
     rw (passed m (collection m (g .node) room) l (valid-by-key h (f .if3 .left)), collect-small m (g .node) room (lt-ltb _ _ (e .if4 .left)) (ap (λ q. ltb room (q .fill)) (sym (c .before .before .entry .ensures)) ∙ lt-ltb _ _ (c .if5 .taken))) (refl, refl))
 
-part-put-end : tie.Need-part-put-end
-part-put-end c =
+part-put-long-end : tie.Need-part-put-long-end
+part-put-long-end c =
     let e = c .before .before .before .before in
     let f = e .before .before in
     let d = f .before in
@@ -97,6 +97,22 @@ part-put-end c =
     let h : (c .before .before .before .entry .result .fill) ≤ 4096 = rw (c .before .before .before .entry .ensures) n in
     let r : 4096 * t .args .node + c .before .before .before .entry .result .fill ≤ length (now (t .args .queues)) = omega (arith, h, valid-count m v .1, e .if4 .left, d .if2 .left) in
     r
+
+put-long-requires : tie.Need-put-long-requires
+unfolding part
+put-long-requires c κs =
+    let y = c .before .before in
+    let x = y .before .before in
+    let e = x .before in
+    let f = e .before .before in
+    let d = f .before in
+    let t = d .before .before .before .before .before in
+    let m = held (t .args .s) (t .pre .0) (now (t .args .payload)) (now (t .args .queues)) in
+    let v = valid-by-key (t .pre .1) (f .if3 .left) in
+    let n = valid-node-at m v (t .args .node) (e .if4 .left) .entry .fill in
+    let h : (x .entry .result .fill) ≤ 4096 = rw (x .entry .ensures) n in
+    let k = length-part (4096 * t .args .node) (x .entry .result .fill) (now (t .args .queues)) (omega (arith, h, valid-count m v .1, e .if4 .left, d .if2 .left)) in
+    rw (add-sub-cancel-left, k) (omega (arith, y .if5 .left), h)
 
 with-entry-requires : tie.Need-with-entry-requires
 with-entry-requires c κs =
@@ -122,11 +138,11 @@ returns-6 c =
     let e = c .before .before .before .before .before .before .before .before .before .entry .ensures in
     let k = length-part (4096 * g .node) (entryAt m (g .node) .fill) (now (g .queues)) (omega (arith, n, valid-count m v .1, x .if4 .left, d .if2 .left)) in
     rw (passed m (collection m (g .node) room) l v, collect-done m (g .node) room (lt-ltb _ _ (x .if4 .left)) (ap (λ q. ltb room (q .fill)) (sym e) ∙ le-ltb _ _ (c .before .before .before .before .before .before .before .if5 .left)))
-    (rw (c .with-entry .ensures, c .before .with-fill .ensures, e, k), rw (c .before .before .before .before .put .ensures, add-sub-cancel-left, e)))
+    (rw (c .with-entry .ensures, c .before .with-fill .ensures, e, k), rw (c .before .before .before .before .put-long .ensures, add-sub-cancel-left, e)))
 
 pub collect-spec : {M : Type 1} → statement M
 collect-spec =
     tie.close
     (tie.spec returns returns-2 returns-3 returns-4 entry-requires (λ c. search needs)
     returns-5 (λ c. search needs) (λ c. search needs) (λ c. search needs) (λ c. search needs) (λ c. search needs)
-    part-put-end (λ c κs. search needs) (λ c κs. search needs) with-entry-requires (λ c. search needs) returns-6)
+    part-put-long-end put-long-requires (λ c κs. search needs) with-entry-requires (λ c. search needs) returns-6)

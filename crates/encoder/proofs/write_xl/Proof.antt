@@ -1,5 +1,5 @@
 -- The answer is decided first; an accepted write lays the header and then the data, a refused one nothing.
-use Rattle.encoder.proofs.Answers.{answers, accepted, size-small, written, kept}
+use Rattle.encoder.proofs.Answers.{answers, accepted, size-small, xl-short, written, kept}
 use Rattle.operation.specs.declared.Operation.the-variants.{XlTransmit}
 use denote.Ref.{now}
 use mathlib.Core.Path.{refl, sym, _∙_}
@@ -23,20 +23,20 @@ put-xl-requires c κs =
     let w = accepted e in
     (omega (arith, w .size, w .fits), w .size)
 
-put-requires : tie.Need-put-requires
-put-requires c κs =
+put-long-requires : tie.Need-put-long-requires
+put-long-requires c κs =
     let d = c .before .before .before .before .before .before .before .before in
     let a = d .before .before .before .before .args in
     let e = sym (answers (XlTransmit (a .id) (a .ide) (a .sec) (a .sdt) (a .vcid) (a .af) (a .dl)) _ _ (d .before .xl-is-legal .ensures) (d .decide .ensures)) ∙ c .before .before .before .before .before .before .answer .given .1 in
     let w = accepted e in
-    omega (arith, w .size, w .whole, w .fits)
+    (omega (arith, w .size, w .whole, w .fits), omega (arith, w .whole, xl-short (a .id) (a .ide) (a .sec) (a .sdt) (a .vcid) (a .af) (a .dl) (w .lawful)))
 
 returns : tie.Need-returns
 returns c =
     let d = c .before .before .before .before .before .before .before .before .before .before .before in
     let a = d .before .before .before .before .args in
     let e = sym (answers (XlTransmit (a .id) (a .ide) (a .sec) (a .sdt) (a .vcid) (a .af) (a .dl)) _ _ (d .before .xl-is-legal .ensures) (d .decide .ensures)) ∙ c .before .before .before .before .before .before .before .before .before .answer .given .1 in
-    (sym e, written (XlTransmit (a .id) (a .ide) (a .sec) (a .sdt) (a .vcid) (a .af) (a .dl)) (now (a .payload)) (now (a .buffer)) e (c .before .before .before .before .before .before .put-xl .ensures) (c .before .before .put .ensures))
+    (sym e, written (XlTransmit (a .id) (a .ide) (a .sec) (a .sdt) (a .vcid) (a .af) (a .dl)) (now (a .payload)) (now (a .buffer)) e (c .before .before .before .before .before .before .put-xl .ensures) (c .before .before .put-long .ensures))
 
 returns-2 : tie.Need-returns-2
 returns-2 c =
@@ -55,5 +55,5 @@ returns-3 c =
 pub write-xl-spec : {M : Type 1} → statement M
 write-xl-spec =
     tie.close
-    (tie.spec (λ c κs. search needs) (λ c κs. search needs) (λ c. search needs) cast-put-xl put-xl-requires put-requires
+    (tie.spec (λ c κs. search needs) (λ c κs. search needs) (λ c. search needs) cast-put-xl put-xl-requires put-long-requires
     (λ c. search needs) (λ c. search needs) (λ c. search needs) returns returns-2 returns-3)
