@@ -324,8 +324,8 @@ pub extern "C" fn kf_write(
 
 const SLOTS: usize = 32;
 
-// The calls of the bus: each goes over the lent slots once, calls the bus with what it needs of them, and puts back the slots that
-// changed.
+// The calls of the bus. A start loads the lent slots and stores them. The others go over the pending ones once, in place, call the bus
+// with that pass's key and what they need of the slots, and put back those that changed.
 
 #[no_mangle]
 pub extern "C" fn kf_start(slots: &mut [Slot], payload: &[u8], queues: &[u8], count: u32) -> Answer
