@@ -1,5 +1,6 @@
 // The calls of the bus with what the pass over the slots gave in their place: the refusals 1 and 3 in front, then what the call does.
-// The public calls go over the lent slots, call these, and put back the slots that changed.
+// The public calls go over the lent slots, call these, and put back the slots that changed. That the key is that of some slots they must
+// meet; what is promised holds for all slots that have it.
 ghost use mathlib.Core.Path.{_≡_};
 ghost use mathlib.Core.List.{List};
 ghost use Prim.Native.Nat.{_+_, _≤_};

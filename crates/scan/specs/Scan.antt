@@ -55,7 +55,7 @@ begun key = record { key = key; low = 0 }
 abbrev pub framesKey : ℕ → ℕ → ℕ → List Slot → ℕ → ℕ
 framesKey n j now a key = stepsOf n (slotsPerNode * j) j now a (begun key) .key
 
--- an entry that is not valid ends the order, and has no frames
+-- an entry that is not valid makes the key 0, and none of its frames is gone along
 abbrev pub entryKey : NodeState → ℕ → ℕ
 entryKey d key = cond (validEntry d) key 0
 

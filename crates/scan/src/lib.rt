@@ -1,5 +1,5 @@
-// One pass over the pending frames for all that a call asks of them: whether state and slots are valid, and which frame is first. The
-// lent slots are walked over by the crate above; here are the steps.
+// One pass over the pending frames for all that a call asks of them: whether state and slots are valid, and which frame is first. Here
+// are its steps, for the crates above: lent_scan goes over the lent slots by them. What is required the callers must meet.
 ghost use mathlib.Core.Path.{_≡_};
 ghost use mathlib.Core.Bool.{_&&_};
 ghost use lib.Dec.{leb};
