@@ -49,10 +49,10 @@ pub fn put_long(buffer: &mut [u8], at: usize, bytes: &[u8])
     ensures { λ _. ⌜ now (buffer .exit) ≡ over (now (buffer .entry)) at (now (bytes .entry)) ⌝ }
 {
     let mut copy = [0u8; 4096];
-    let mut i = 0;
-    while i < bytes.len() {
-        copy[i] = bytes[i];
-        i += 1;
+    let mut p = 0;
+    while p < bytes.len() {
+        copy[p] = bytes[p];
+        p += 1;
     }
     put(buffer, at, &copy[..bytes.len()]);
 }

@@ -1,4 +1,4 @@
--- The loop's invariant: the first i bytes are copied. The copy is then laid.
+-- The loop's invariant: the first p bytes are copied. The copy is then laid.
 use Prim.Native.Nat.{_≤_, _-_}
 use Rattle.buffers.proofs.Copies.{copied-next}
 use Rattle.buffers.specs.Parts.{over}
@@ -14,10 +14,10 @@ use Rattle.buffers.proofs.put_long.Statement.{statement}
 use Rattle.buffers.proofs.put_long.Tie as tie
 
 abbrev Inv-loop : tie.InvT-loop
-Inv-loop buffer at bytes copy₀ i₀ copy i = (take i copy ≡ take i bytes) × (i ≤ length bytes) × (length copy ≡ 4096)
+Inv-loop buffer at bytes copy₀ p₀ copy p = (take p copy ≡ take p bytes) × (p ≤ length bytes) × (length copy ≡ 4096)
 
 abbrev μ-loop : tie.MeasureT-loop
-μ-loop buffer at bytes copy₀ i₀ copy i = length bytes - i
+μ-loop buffer at bytes copy₀ p₀ copy p = length bytes - p
 
 loop-holds : tie.Need-loop-holds Inv-loop μ-loop
 loop-holds c = (refl, omega arith, refl)
@@ -29,7 +29,7 @@ loop-again : tie.Need-loop-again Inv-loop μ-loop
 loop-again c =
     let l = c .before .before in
     let b = l .before .before .before in
-    (copied-next (l .loop .copy) (now (b .args .bytes)) (l .loop .i) (omega (arith, b .pre .1, l .loop .inv .2)) (omega arith) (l .loop .inv .0), omega arith, simp length-set (l .loop .inv .2))
+    (copied-next (l .loop .copy) (now (b .args .bytes)) (l .loop .p) (omega (arith, b .pre .1, l .loop .inv .2)) (omega arith) (l .loop .inv .0), omega arith, simp length-set (l .loop .inv .2))
 
 array-share-prefix-copy : tie.Need-array-share-prefix-copy Inv-loop μ-loop
 array-share-prefix-copy c = omega (arith, c .before .before .before .before .before .pre .1, c .before .before .loop .inv .2)
@@ -51,7 +51,7 @@ returns c =
     let a = p .before .before .before in
     let l = a .before in
     let s = now (l .before .before .before .args .bytes) in
-    let n : l .loop .i ≡ length s = le-antisymm (l .loop .inv .1) (a .loop-test .left) in
+    let n : l .loop .p ≡ length s = le-antisymm (l .loop .inv .1) (a .loop-test .left) in
     let e : take (length s) (l .loop .copy) ≡ s = sym (ap (λ k. take k (l .loop .copy)) n) ∙ l .loop .inv .0 ∙ ap (λ k. take k s) n ∙ take-length s in
     p .put .ensures ∙ ap (over _ _) e
 
