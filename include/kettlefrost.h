@@ -25,7 +25,7 @@
  *   and payload of no frame and a queue past its fill keep what they held, as does a buffer past the length given.
  *
  * No call keeps a pointer, allocates memory or has variables of its own: calls on different states and memories are
- * independent, in any threads. The library is built for x86-64 and needs of the C library memcpy and memset alone.
+ * independent, in any threads. The library is built for x86-64 and needs of the C library memcpy, memmove and memset alone.
  *
  * What is asked of the caller: a pointer leads to as much memory as the length after it says (a null pointer will do
  * for length 0), and memory that a call may write overlaps nothing else that it is given. Slots, payload and queues may

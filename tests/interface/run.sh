@@ -100,7 +100,7 @@ exports() {
 
 # It needs what the header says of the C library, and nothing else.
 imports() {
-    [ "$(nm -u "$library" | awk 'NF == 2 { print $2 }' | sort | tr '\n' ' ')" = 'memcpy memset ' ]
+    [ "$(nm -u "$library" | awk 'NF == 2 { print $2 }' | sort | tr '\n' ' ')" = 'memcpy memmove memset ' ]
 }
 
 # It has no variables: no section that can be written.
