@@ -84,12 +84,18 @@ pub fn slot_is_valid(s: Slot, owner: u8, low: u32, now: u32) -> bool
 
 // Reading and setting one entry and its fields, for the crates above: what is asked of j they must meet.
 
+// Half of the entries are copied: a copy of all of them is a call.
 pub fn entry(s: State, j: usize) -> NodeState
     requires { ⌜ j < 8 ⌝ }
     ensures { λ r. ⌜ r ≡ nodeState s j ⌝ }
 {
     let nodes = s.nodes;
-    nodes[j]
+    if j < 4 {
+        let low = [nodes[0], nodes[1], nodes[2], nodes[3]];
+        return low[j];
+    }
+    let high = [nodes[4], nodes[5], nodes[6], nodes[7]];
+    high[j - 4]
 }
 
 pub fn with_entry(mut s: State, j: usize, d: NodeState) -> State
@@ -130,12 +136,20 @@ pub fn with_behaviour(mut d: NodeState, behaviour: u8) -> NodeState
     d
 }
 
+// By constant indices, so that an entry stays in registers.
 pub fn with_rate(mut d: NodeState, i: usize, rate: u32) -> NodeState
     requires { ⌜ i < 3 ⌝ }
     ensures { λ r. ⌜ r ≡ entryRates d (set (d .rates) i rate) ⌝ }
 {
-    let mut rates = d.rates;
-    rates[i] = rate;
-    d.rates = rates;
+    let rates = d.rates;
+    if i == 0 {
+        d.rates = [rate, rates[1], rates[2]];
+        return d;
+    }
+    if i == 1 {
+        d.rates = [rates[0], rate, rates[2]];
+        return d;
+    }
+    d.rates = [rates[0], rates[1], rate];
     d
 }
