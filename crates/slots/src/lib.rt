@@ -163,13 +163,15 @@ pub fn slot_of(op: Operation, owner: u8, accepted: u32) -> Slot
     }
 }
 
-// Whether a slot holds a frame that meets the content rules.
+// Whether a slot holds a frame that meets the content rules. A classic frame first: it then needs no choice among the kinds.
 pub fn is_legal(s: Slot) -> bool
     ensures { λ r. ⌜ r ≡ legalContent (contentOf s) ⌝ }
 {
     let kind = s.kind;
+    if kind == 0x10 {
+        return operation::can_is_legal(s.id, s.first, s.second, s.length);
+    }
     match kind {
-        0x10 => operation::can_is_legal(s.id, s.first, s.second, s.length),
         0x11 => operation::fd_is_legal(s.id, s.first, s.second, s.third, s.length),
         0x12 => operation::xl_is_legal(s.id, s.first, s.second, s.third, s.fourth, s.af, s.length),
         _ => false,
