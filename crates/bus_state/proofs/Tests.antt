@@ -1,4 +1,4 @@
--- Laws of the tests of validity, one entry at a time.
+-- Laws of the tests of validity, one entry and one slot at a time.
 -- Assumes nothing.
 use mathlib.Core.Path.{_≡_, refl}
 use mathlib.Core.Bool.{Bool, true, false, not, _&&_, _||_}
@@ -14,7 +14,7 @@ use Rattle.plain_bus.specs.Held.{busOff}
 use Rattle.slots.specs.Slots.{contentOf, legalContent}
 use Rattle.slots.specs.declared.Slot.{Slot}
 use Rattle.bus_state.specs.Memory.{bytesPerQueue}
-use Rattle.bus_state.specs.Valid.{nonZero, validEntry, validSlot}
+use Rattle.bus_state.specs.Valid.{nonZero, validEntry, slotFollows}
 use Rattle.bus_state.specs.declared.NodeState.{NodeState}
 
 -- three baud rates, each tested
@@ -33,37 +33,28 @@ three (a ∷ b ∷ d ∷ []) e = go (leb 1 a) (leb 1 b) (leb 1 d)
 three (a ∷ b ∷ d ∷ f ∷ l) e = absurd (omega arith)
 
 -- a slot that fails one of the tests of its owner and its acceptance, and one that passes them
-module _ (j low now : ℕ) (s : Slot) where
-  pub slot-of-another : eqb (s .owner) j ≡ false → validSlot j low now s ≡ false
-  unfolding validSlot
+module _ (j low : ℕ) (s : Slot) where
+  pub slot-of-another : eqb (s .owner) j ≡ false → slotFollows j low s ≡ false
+  unfolding slotFollows
   slot-of-another e = rw e (go (legalContent (contentOf s)))
     where
-      go : (x : Bool) → (x && false && leb low (s .accepted) && leb (s .accepted) now) ≡ false
+      go : (x : Bool) → (x && false && leb low (s .accepted)) ≡ false
       go true = refl
       go false = refl
 
-  pub slot-out-of-order : leb low (s .accepted) ≡ false → validSlot j low now s ≡ false
-  unfolding validSlot
+  pub slot-out-of-order : leb low (s .accepted) ≡ false → slotFollows j low s ≡ false
+  unfolding slotFollows
   slot-out-of-order e = rw e (go (legalContent (contentOf s) && eqb (s .owner) j))
-    where
-      go : (x : Bool) → (x && false && leb (s .accepted) now) ≡ false
-      go true = refl
-      go false = refl
-
-  pub slot-of-the-future : leb (s .accepted) now ≡ false → validSlot j low now s ≡ false
-  unfolding validSlot
-  slot-of-the-future e = rw e (go (legalContent (contentOf s) && eqb (s .owner) j && leb low (s .accepted)))
     where
       go : (x : Bool) → (x && false) ≡ false
       go true = refl
       go false = refl
 
-  pub slot-by-content : eqb (s .owner) j ≡ true → leb low (s .accepted) ≡ true → leb (s .accepted) now ≡ true
-      → validSlot j low now s ≡ legalContent (contentOf s)
-  unfolding validSlot
-  slot-by-content e f g = rw (e, f, g) (go (legalContent (contentOf s)))
+  pub slot-by-content : eqb (s .owner) j ≡ true → leb low (s .accepted) ≡ true → slotFollows j low s ≡ legalContent (contentOf s)
+  unfolding slotFollows
+  slot-by-content e f = rw (e, f) (go (legalContent (contentOf s)))
     where
-      go : (x : Bool) → (x && true && true && true) ≡ x
+      go : (x : Bool) → (x && true && true) ≡ x
       go true = refl
       go false = refl
 

@@ -51,3 +51,9 @@ validNodes (suc n) j s slots = validNode (s .round) j (nodeState s j) slots && v
 
 unfoldable pub validState : State → List Slot → Bool
 validState s slots = leb 2 (s .count) && leb (s .count) 8 && validNodes (s .count) 0 s slots
+
+-- ---- for the pass over the slots
+
+-- what a valid slot has but for `now`: a pending frame of node j that may stand behind one accepted at round `low`
+unfoldable pub slotFollows : ℕ → ℕ → Slot → Bool
+slotFollows j low s = legalContent (contentOf s) && eqb (s .owner) j && leb low (s .accepted)

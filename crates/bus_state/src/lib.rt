@@ -5,7 +5,7 @@ ghost use Rattle.operation.specs.Rules.{oneOf, behaviours};
 ghost use lib.ListN.{set};
 ghost use Rattle.bus_state.specs.Memory.{nodeState};
 ghost use Rattle.bus_state.specs.Entries.{withEntry, entryStatus, entryBehaviour, entryRates, entryFill, entryPending};
-ghost use Rattle.bus_state.specs.Valid.{nonZero, validEntry, validSlot};
+ghost use Rattle.bus_state.specs.Valid.{nonZero, validEntry, slotFollows};
 use slots::Slot;
 
 // What is held of one node besides its frames and its queue's bytes: its pending frames are slots 4j to 4j + pending - 1 of node j,
@@ -67,16 +67,15 @@ pub fn entry_is_valid(d: NodeState) -> bool
     (d.status != operation::BUS_OFF) | (d.pending == 0)
 }
 
-pub fn slot_is_valid(s: Slot, owner: u8, low: u32, now: u32) -> bool
-    ensures { λ r. ⌜ r ≡ validSlot owner low now s ⌝ }
+// Whether a frame of this node may stand behind one that was accepted at round low. That its own round is not to come is asked of a
+// node's last frame alone (scan).
+pub fn slot_follows(s: Slot, owner: u8, low: u32) -> bool
+    ensures { λ r. ⌜ r ≡ slotFollows owner low s ⌝ }
 {
     if s.owner != owner {
         return false;
     }
     if s.accepted < low {
-        return false;
-    }
-    if now < s.accepted {
         return false;
     }
     slots::is_legal(s)

@@ -16,10 +16,10 @@ fn frames_key(slots: &[Slot], key: u64, n: usize, j: usize, round: u32) -> u64
     let end = p + n;
     while p < end {
         let x = slots[p];
-        run = scan::step(run, x, j, p, round);
+        run = scan::step(run, x, j, p);
         p += 1;
     }
-    scan::key_of(run)
+    scan::key_of(run, round)
 }
 
 // The key of a state with its slots: 0 where they are not valid (01: not sound), else the winner's.

@@ -10,15 +10,14 @@ use Rattle.operation.specs.Kinds.{idOf}
 use Rattle.operation.specs.Rules.{maxId, rules, legal}
 use Rattle.operation.specs.declared.Operation.{Operation}
 use Rattle.operation.specs.declared.Operation.the-variants.{CanTransmit, FdTransmit, XlTransmit}
-use Rattle.operation.proofs.Tests.{false-is-true, passed}
+use Rattle.operation.proofs.Tests.{false-is-true, both, passed}
 use Rattle.slots.specs.Slots.{contentOf, heldIn, legalContent}
 use Rattle.slots.specs.declared.Slot.{Slot}
 use Rattle.slots.specs.declared.Content.{Content}
 use Rattle.slots.specs.declared.Content.the-variants.{Free, Transmit}
 use Rattle.plain_bus.specs.Order.{rank}
-use Rattle.bus_state.specs.Valid.{validSlot}
+use Rattle.bus_state.specs.Valid.{slotFollows}
 use Rattle.bus_model.proofs.Lawful.{max-id}
-use Rattle.bus_model.proofs.Validity.{slot-is}
 
 low-id : (id ide : ℕ) → leb id (maxId ide) ≡ true → id < 4_294_967_296
 low-id id ide e = omega (arith, leb-true id (maxId ide) e, max-id ide)
@@ -51,6 +50,6 @@ legal-id x = go (eqb (x .kind) 0x10) (eqb (x .kind) 0x11) (eqb (x .kind) 0x12)
     go false false true l = (refl, xl-id _ _ _ _ _ _ _ l)
     go false false false l = false-is-true l
 
-pub valid-rank : (j low now : ℕ) (x : Slot) → validSlot j low now x ≡ true → (rank (heldIn (contentOf x)) ≡ x .id) × (x .id < 4_294_967_296)
-unfolding rank
-valid-rank j low now x v = legal-id x (slot-is j low now x v .lawful)
+pub rank-is : (j low : ℕ) (x : Slot) → slotFollows j low x ≡ true → (rank (heldIn (contentOf x)) ≡ x .id) × (x .id < 4_294_967_296)
+unfolding rank slotFollows
+rank-is j low x f = legal-id x (both _ _ (both _ _ f .0) .0)

@@ -12,18 +12,18 @@ use Rattle.bus_state.specs.declared.State.{State}
 use Rattle.scan.specs.declared.Run.{Run}
 use Rattle.scan.specs.Scan.{stepOf, stepsOf, framesKey, entryKey, frameCount, nodesKey, attachedCount, firstKey, scanned}
 
-module _ (a : List Slot) (j now p end : ℕ) (r : Run) where
-  pub steps-next : p < end → stepsOf (end - suc p) (suc p) j now a (stepOf r (getD a p freeSlot) j p now) ≡ stepsOf (end - p) p j now a r
+module _ (a : List Slot) (j p end : ℕ) (r : Run) where
+  pub steps-next : p < end → stepsOf (end - suc p) (suc p) j a (stepOf r (getD a p freeSlot) j p) ≡ stepsOf (end - p) p j a r
   unfolding stepsOf
   steps-next h =
       let n : suc (end - suc p) ≡ end - p = omega arith in
-      ap (λ (k : ℕ). stepsOf k p j now a r) n
+      ap (λ (k : ℕ). stepsOf k p j a r) n
 
-  pub steps-end : end ≤ p → stepsOf (end - p) p j now a r ≡ r
+  pub steps-end : end ≤ p → stepsOf (end - p) p j a r ≡ r
   unfolding stepsOf
   steps-end h =
       let n : end - p ≡ 0 = omega arith in
-      ap (λ (k : ℕ). stepsOf k p j now a r) n
+      ap (λ (k : ℕ). stepsOf k p j a r) n
 
 module _ (s : State) (a : List Slot) (j count key : ℕ) where
   pub nodes-next : j < count

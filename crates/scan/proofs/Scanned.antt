@@ -8,13 +8,13 @@ use native.Mathlib.Nat.{add-zero}
 use native.Mathlib.Omega.{arith}
 use lib.Dec.{leb, ltb}
 use lib.ListN.{getD}
-use borrow.Author.Tests.{leb-true, le-ltb}
+use borrow.Author.Tests.{leb-true, le-leb, le-ltb}
 use Rattle.operation.proofs.Tests.{false-is-true, both}
 use Rattle.plain_bus.specs.Order.{rank}
 use Rattle.slots.specs.Slots.{freeSlot, contentOf, heldIn}
 use Rattle.slots.specs.declared.Slot.{Slot}
 use Rattle.bus_state.specs.Memory.{nodeState}
-use Rattle.bus_state.specs.Valid.{validSlot, validSlots, validEntry, validNode, validNodes, validState}
+use Rattle.bus_state.specs.Valid.{validSlots, validEntry, validNode, validNodes, validState, slotFollows}
 use Rattle.bus_state.specs.declared.State.{State}
 use Rattle.bus_state.specs.declared.NodeState.{NodeState}
 use Rattle.bus_state.proofs.Tests.{few}
@@ -24,7 +24,8 @@ use Rattle.scan.specs.declared.Winner.the-variants.{Nobody, First}
 use Rattle.scan.specs.Winner.{heldAt, better, bestOf, entryOf, bestFrom, bestIn, Small}
 use Rattle.scan.specs.Scan.{frameKey, noFrame, keyOf, lowerOf, stepOf, stepsOf, begun, framesKey, entryKey, frameCount, nodesKey, attachedCount, firstKey, scanned}
 use Rattle.scan.proofs.Keys.{key-better, better-small}
-use Rattle.scan.proofs.Frames.{valid-rank}
+use Rattle.scan.proofs.Frames.{rank-is}
+use Rattle.scan.proofs.Following.{slotsFollow, lastRound, steps-low, following-valid}
 
 -- the key so far: that of w where all was valid, and 0 where not
 abbrev pub KeyIs : ℕ → Bool → Winner → Type 0
@@ -48,7 +49,7 @@ assoc false b c = refl
 
 -- ---- one slot
 
-module _ (a : List Slot) (j q now : ℕ) (j8 : j < 8) (q4 : q < 4) where
+module _ (a : List Slot) (j q : ℕ) (j8 : j < 8) (q4 : q < 4) where
   abbrev x : Slot
   x = getD a (4 * j + q) freeSlot
 
@@ -56,51 +57,61 @@ module _ (a : List Slot) (j q now : ℕ) (j8 : j < 8) (q4 : q < 4) where
   next w = better w (rank (heldAt a (4 * j + q))) j q
 
   step-key : (r : Run) (ok : Bool) (w : Winner) → KeyIs (r .key) ok w → SmallIf ok w
-      → KeyIs (stepOf r x j (4 * j + q) now .key) (ok && validSlot j (r .low) now x) (next w)
+      → KeyIs (stepOf r x j (4 * j + q) .key) (ok && slotFollows j (r .low) x) (next w)
   unfolding stepOf
-  step-key r ok w e s = go ok (validSlot j (r .low) now x) refl e s
+  step-key r ok w e s = go ok (slotFollows j (r .low) x) refl e s
     where
-      go : (o v : Bool) → validSlot j (r .low) now x ≡ v → r .key ≡ cond o (keyOf w) 0 → SmallIf o w
+      go : (o v : Bool) → slotFollows j (r .low) x ≡ v → r .key ≡ cond o (keyOf w) 0 → SmallIf o w
           → cond v (lowerOf (frameKey (x .id) (4 * j + q)) (r .key)) 0 ≡ cond (o && v) (keyOf (next w)) 0
       go true true qv e s =
-          let v = valid-rank j (r .low) now x qv in
+          let v = rank-is j (r .low) x qv in
           rw (e, v .0) (key-better (x .id) j q w (s refl) (v .1) j8 q4)
       go false true qv e s = rw (e, le-ltb (frameKey (x .id) (4 * j + q)) 0 (omega arith))
       go true false qv e s = refl
       go false false qv e s = refl
 
-  step-small : (low : ℕ) (ok : Bool) (w : Winner) → SmallIf ok w → SmallIf (ok && validSlot j low now x) (next w)
-  step-small low ok w s = go ok (validSlot j low now x) refl s
+  step-small : (low : ℕ) (ok : Bool) (w : Winner) → SmallIf ok w → SmallIf (ok && slotFollows j low x) (next w)
+  step-small low ok w s = go ok (slotFollows j low x) refl s
     where
-      go : (o v : Bool) → validSlot j low now x ≡ v → SmallIf o w → SmallIf (o && v) (next w)
+      go : (o v : Bool) → slotFollows j low x ≡ v → SmallIf o w → SmallIf (o && v) (next w)
       go true true qv s = λ _.
-          let v = valid-rank j low now x qv in
+          let v = rank-is j low x qv in
           rw (v .0) (better-small (x .id) j q w (s refl) (v .1) j8 q4)
       go false v qv s = λ h. false-is-true h
       go true false qv s = λ h. false-is-true h
 
 -- ---- n slots of a node from position q on
 
-module _ (a : List Slot) (j now : ℕ) (j8 : j < 8) where
+-- the key after one more test
+last-key : (k : ℕ) (ok t : Bool) (w : Winner) → KeyIs k ok w → SmallIf ok w → KeyIs (cond t k 0) (ok && t) w × SmallIf (ok && t) w
+last-key k ok true w e s = rw (and-true ok) (e, s)
+last-key k ok false w e s = rw (and-false ok) (refl, λ h. false-is-true h)
+
+module _ (a : List Slot) (j : ℕ) (j8 : j < 8) where
   steps-key : (n q : ℕ) → q + n ≤ 4 → (r : Run) (ok : Bool) (w : Winner) → KeyIs (r .key) ok w → SmallIf ok w
-      → KeyIs (stepsOf n (4 * j + q) j now a r .key) (ok && validSlots n (4 * j + q) j (r .low) now a) (bestOf a j q n w)
-      × SmallIf (ok && validSlots n (4 * j + q) j (r .low) now a) (bestOf a j q n w)
-  unfolding stepsOf validSlots bestOf stepOf
+      → KeyIs (stepsOf n (4 * j + q) j a r .key) (ok && slotsFollow n (4 * j + q) j (r .low) a) (bestOf a j q n w)
+      × SmallIf (ok && slotsFollow n (4 * j + q) j (r .low) a) (bestOf a j q n w)
+  unfolding stepsOf slotsFollow bestOf stepOf
   steps-key zero q h r ok w e s = rw (and-true ok) (e, s)
   steps-key (suc n) q h r ok w e s =
       let q4 : q < 4 = omega arith in
       let p : 4 * j + suc q ≡ suc (4 * j + q) = omega arith in
-      let v = validSlot j (r .low) now (getD a (4 * j + q) freeSlot) in
+      let v = slotFollows j (r .low) (getD a (4 * j + q) freeSlot) in
       let i =
-      steps-key n (suc q) (omega arith) (stepOf r (getD a (4 * j + q) freeSlot) j (4 * j + q) now) (ok && v) _
-      (step-key a j q now j8 q4 r ok w e s) (step-small a j q now j8 q4 (r .low) ok w s) in
-      rw (← assoc ok v (validSlots n (suc (4 * j + q)) j (getD a (4 * j + q) freeSlot .accepted) now a)) (rw p at i)
+      steps-key n (suc q) (omega arith) (stepOf r (getD a (4 * j + q) freeSlot) j (4 * j + q)) (ok && v) _
+      (step-key a j q j8 q4 r ok w e s) (step-small a j q j8 q4 (r .low) ok w s) in
+      rw (← assoc ok v (slotsFollow n (suc (4 * j + q)) j (getD a (4 * j + q) freeSlot .accepted) a)) (rw p at i)
 
   -- all n frames of a node
-  frames-key : (n key : ℕ) → n ≤ 4 → (ok : Bool) (w : Winner) → KeyIs key ok w → SmallIf ok w
+  frames-key : (now n key : ℕ) → n ≤ 4 → (ok : Bool) (w : Winner) → KeyIs key ok w → SmallIf ok w
       → KeyIs (framesKey n j now a key) (ok && validSlots n (4 * j) j 0 now a) (bestOf a j 0 n w)
       × SmallIf (ok && validSlots n (4 * j) j 0 now a) (bestOf a j 0 n w)
-  frames-key n key h ok w e s = rw add-zero at (steps-key n 0 (omega arith) (begun key) ok w e s)
+  frames-key now n key h ok w e s =
+      let i = rw add-zero at (steps-key n 0 (omega arith) (begun key) ok w e s) in
+      let follow = slotsFollow n (4 * j) j 0 a in
+      let past = leb (lastRound n (4 * j) 0 a) now in
+      rw (steps-low a j n (4 * j) (begun key), ← following-valid a j now n (4 * j) 0 (omega arith), ← assoc ok follow past)
+      (last-key _ (ok && follow) past _ (i .0) (i .1))
 
 -- ---- n nodes from number j on
 
@@ -120,8 +131,8 @@ module _ (s : State) (a : List Slot) where
       go : (v : Bool) → validEntry (entry j) ≡ v
           → KeyIs (framesKey (cond v n 0) j (s .round) a (cond v key 0)) (ok && (v && validSlots n (4 * j) j 0 (s .round) a)) (bestOf a j 0 n w)
           × SmallIf (ok && (v && validSlots n (4 * j) j 0 (s .round) a)) (bestOf a j 0 n w)
-      go true q = frames-key a j (s .round) j8 n key (few (entry j) q) ok w e z
-      go false q = rw (and-false ok) (refl, λ h. false-is-true h)
+      go true q = frames-key a j j8 (s .round) n key (few (entry j) q) ok w e z
+      go false q = rw (and-false ok, le-leb 0 (s .round) (omega arith)) (refl, λ h. false-is-true h)
 
   nodes-key : (n j key : ℕ) → j + n ≤ 8 → (ok : Bool) (w : Winner) → KeyIs key ok w → SmallIf ok w
       → KeyIs (nodesKey n j s a key) (ok && validNodes n j s a) (bestFrom (s .nodes) a j n w) × SmallIf (ok && validNodes n j s a) (bestFrom (s .nodes) a j n w)

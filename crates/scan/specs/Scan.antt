@@ -8,7 +8,7 @@ use lib.ListN.{getD}
 use Rattle.slots.specs.Slots.{freeSlot}
 use Rattle.slots.specs.declared.Slot.{Slot}
 use Rattle.bus_state.specs.Memory.{slotsPerNode, nodeState}
-use Rattle.bus_state.specs.Valid.{validSlot, validEntry}
+use Rattle.bus_state.specs.Valid.{validEntry, slotFollows}
 use Rattle.bus_state.specs.declared.State.{State}
 use Rattle.bus_state.specs.declared.NodeState.{NodeState}
 use Rattle.scan.specs.declared.Run.{Run}
@@ -39,21 +39,25 @@ lowerOf a b = cond (ltb a b) a b
 -- ---- one node
 
 -- the key with one more slot, p of node j, behind one that was accepted at round `low`
-unfoldable pub stepOf : Run → Slot → ℕ → ℕ → ℕ → Run
-stepOf r x j p now =
-    record { key = cond (validSlot j (r .low) now x) (lowerOf (frameKey (x .id) p) (r .key)) 0; low = x .accepted }
+unfoldable pub stepOf : Run → Slot → ℕ → ℕ → Run
+stepOf r x j p =
+    record { key = cond (slotFollows j (r .low) x) (lowerOf (frameKey (x .id) p) (r .key)) 0; low = x .accepted }
 
 -- with n slots from p on
-unfoldable pub stepsOf : ℕ → ℕ → ℕ → ℕ → List Slot → Run → Run
-stepsOf zero p j now a r = r
-stepsOf (suc n) p j now a r = stepsOf n (suc p) j now a (stepOf r (getD a p freeSlot) j p now)
+unfoldable pub stepsOf : ℕ → ℕ → ℕ → List Slot → Run → Run
+stepsOf zero p j a r = r
+stepsOf (suc n) p j a r = stepsOf n (suc p) j a (stepOf r (getD a p freeSlot) j p)
 
 abbrev pub begun : ℕ → Run
 begun key = record { key = key; low = 0 }
 
+-- 0 where the last frame was accepted after `now`
+abbrev pub runKey : Run → ℕ → ℕ
+runKey r now = cond (leb (r .low) now) (r .key) 0
+
 -- the key with n frames of node j
 abbrev pub framesKey : ℕ → ℕ → ℕ → List Slot → ℕ → ℕ
-framesKey n j now a key = stepsOf n (slotsPerNode * j) j now a (begun key) .key
+framesKey n j now a key = runKey (stepsOf n (slotsPerNode * j) j a (begun key)) now
 
 -- an entry that is not valid makes the key 0, and none of its frames is gone along
 abbrev pub entryKey : NodeState → ℕ → ℕ

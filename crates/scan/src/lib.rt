@@ -6,7 +6,7 @@ ghost use lib.Dec.{leb};
 ghost use Prim.Native.Nat.{_+_, _≤_, _<_};
 ghost use Rattle.scan.specs.Winner.{Small};
 ghost use Rattle.scan.specs.declared.Winner.{Winner};
-ghost use Rattle.scan.specs.Scan.{keyOf, winnerBlock, lowerOf, stepOf, begun, entryKey, frameCount, attachedCount, firstKey};
+ghost use Rattle.scan.specs.Scan.{keyOf, winnerBlock, lowerOf, stepOf, runKey, begun, entryKey, frameCount, attachedCount, firstKey};
 use bus_state::NodeState;
 use bus_state::State;
 use slots::Slot;
@@ -111,11 +111,11 @@ fn with_frame(r: Run, key: u64, accepted: u32) -> Run
 }
 
 // One more slot, p of node j.
-pub fn step(r: Run, x: Slot, j: usize, p: usize, now: u32) -> Run
+pub fn step(r: Run, x: Slot, j: usize, p: usize) -> Run
     requires { ⌜ (j < 8) × (p < 32) ⌝ }
-    ensures { λ t. ⌜ t ≡ stepOf r x j p now ⌝ }
+    ensures { λ t. ⌜ t ≡ stepOf r x j p ⌝ }
 {
-    if !bus_state::slot_is_valid(x, j as u8, r.low, now) {
+    if !bus_state::slot_follows(x, j as u8, r.low) {
         return Run {
             key: INVALID,
             low: x.accepted,
@@ -124,9 +124,13 @@ pub fn step(r: Run, x: Slot, j: usize, p: usize, now: u32) -> Run
     with_frame(r, x.id as u64 * 32 + p as u64 + 1, x.accepted)
 }
 
-pub fn key_of(r: Run) -> u64
-    ensures { λ k. ⌜ k ≡ r .key ⌝ }
+// Along a node's frames the rounds do not fall, so that none was accepted after now if the last was not.
+pub fn key_of(r: Run, now: u32) -> u64
+    ensures { λ k. ⌜ k ≡ runKey r now ⌝ }
 {
+    if now < r.low {
+        return INVALID;
+    }
     r.key
 }
 

@@ -50,9 +50,9 @@ use Rattle.slots.specs.declared.Slot.{Slot}
 use Rattle.slots.specs.Slots.{freeSlot}
 use Rattle.slots.proofs.Slot as T
 use Rattle.lent_slots.proofs.Element.{IsSlot, looks-slots, makes, slot-out, typed, value, word}
-use Rattle.lent_slots.proofs.Called.{hears, said, calls-one}
+use Rattle.lent_slots.proofs.Called.{hears, said, calls-one, calls-two}
 use Rattle.scan.specs.declared.Run.{Run}
-use Rattle.scan.specs.Scan.{stepOf, stepsOf, begun, framesKey}
+use Rattle.scan.specs.Scan.{stepOf, stepsOf, begun, runKey, framesKey}
 use Rattle.scan.proofs.Passes.{steps-next, steps-end}
 use Rattle.scan.proofs.Run as R
 use Rattle.scan.proofs.Run.Laws as R′
@@ -91,7 +91,7 @@ SliceTy = sliceTy (tyRef (named 0) imm (pointee (T.the-row .written)))
 abbrev more : Body
 more = mapBody (spell Mir.table) (seq (assign (place 11 []) (op2 (mul unsigned) (copy (place 7 [])) (int w64 20))) (seq (assign (place 12 []) (op2 offset (copy (place 1 (field 0 ∷ []))) (copy (place 11 []))))
     (seq (assign (place 13 []) (rvOpd (copy (place 12 (deref (pointee (T.the-row .written)) ∷ []))))) (seq (assign (place 9 []) (rvOpd (copy (place 13 []))))
-    (seq (call #step (copy (place 6 []) ∷ copy (place 9 []) ∷ copy (place 4 []) ∷ copy (place 7 []) ∷ copy (place 5 []) ∷ []) (place 6 []))
+    (seq (call #step (copy (place 6 []) ∷ copy (place 9 []) ∷ copy (place 4 []) ∷ copy (place 7 []) ∷ []) (place 6 []))
     (assign (place 7 []) (op2 (add unsigned) (copy (place 7 [])) (int w64 1))))))))
 
 module _ {M : Type 1} (𝓤 : URA M) (H : Heap 𝓤) (A : Atoms 𝓤) (mem : Memory → SProp 𝓤) (run : Routine → Fun 𝓤) where
@@ -129,7 +129,7 @@ module _ {M : Type 1} (𝓤 : URA M) (H : Heap 𝓤) (A : Atoms 𝓤) (W : Given
   elem p = getD ys p freeSlot
 
   abbrev total : Run
-  total = stepsOf n (4 * j) j round ys (begun key)
+  total = stepsOf n (4 * j) j ys (begun key)
 
   abbrev Post : Val → SProp 𝓤
   Post = walkOf 𝓤 H A frames.ended stayed (frames.clauses 𝓤 H A mem run) .post (((κ, tt), (q, tt), tt, arg, at), tt)
@@ -151,24 +151,24 @@ module _ {M : Type 1} (𝓤 : URA M) (H : Heap 𝓤) (A : Atoms 𝓤) (W : Given
   begins : 4 * j ≤ 4 * j + n
   begins = omega arith
 
-  starts : (r : Run) → r ≡ begun key → stepsOf (4 * j + n - 4 * j) (4 * j) j round ys r ≡ total
+  starts : (r : Run) → r ≡ begun key → stepsOf (4 * j + n - 4 * j) (4 * j) j ys r ≡ total
   starts r e = let all : 4 * j + n - 4 * j ≡ n = omega arith in rw (all, e)
 
   -- what `step` binds outside its triple, and that the caller has what it asks
   abbrev StepArg : Type 0
-  StepArg = Run × (Slot × (ℕ × (ℕ × (ℕ × Unit {0}))))
+  StepArg = Run × (Slot × (ℕ × (ℕ × Unit {0})))
 
   abbrev step-args : Run → ℕ → StepArg
-  step-args s p = (s, (elem p, (j, (p, (round, tt)))))
+  step-args s p = (s, (elem p, (j, (p, tt))))
 
   abbrev to-step : Run → Val → ℕ → Step 𝓤 H A mem run .Ghost
-  to-step s v p = ((tt, tt, tt, step-args s p, (v ∷ [], (value (elem p) ∷ [], (vint w64 j ∷ [], (vint w64 p ∷ [], (vint w32 round ∷ [], tt)))))), tt)
+  to-step s v p = ((tt, tt, tt, step-args s p, (v ∷ [], (value (elem p) ∷ [], (vint w64 j ∷ [], (vint w64 p ∷ [], tt))))), tt)
 
   goes-step : (s : Run) (v : Val) (p : ℕ) → p < 4 * j + n → Is R.the-row s (v ∷ []) → IsSlot (elem p) → ent 𝓤 (sem 𝓤 H A ftrue) (Step 𝓤 H A mem run .pre (to-step s v p))
   goes-step s v p h gs g =
       let small : p < 32 = omega arith in
       let fits : p < 2 ^ 64 = omega arith in
-      qed W (‵ ftrue ∷ []) ∵ says ! (j8, small) $ frame ! $ nothing ! $ owned ! u32 (Is u32) (uint-makes 𝓤 H A W w32) round _ (refl, g-round) $ fjoin ! $ owned ! usize (Is usize) (uint-makes 𝓤 H A W w64) p _ (refl, fits) $ fjoin ! $
+      qed W (‵ ftrue ∷ []) ∵ says ! (j8, small) $ frame ! $ nothing ! $ owned ! usize (Is usize) (uint-makes 𝓤 H A W w64) p _ (refl, fits) $ fjoin ! $
       owned ! usize (Is usize) (uint-makes 𝓤 H A W w64) j _ (refl, g-j) $ fjoin ! $ owned ! T.the-row (Is T.the-row) (makes 𝓤 H A) (elem p) _ g $ fjoin ! $
       owned ! R.the-row (Is R.the-row) (LL.makes R.the-type R′.the-plain 𝓤 H A) s _ gs $ fjoin ! $ done !
 
@@ -188,7 +188,7 @@ module _ {M : Type 1} (𝓤 : URA M) (H : Heap 𝓤) (A : Atoms 𝓤) (W : Given
       pub s : Run
       pub v : Val
       pub le : p ≤ 4 * j + n
-      pub rest : stepsOf (4 * j + n - p) p j round ys s ≡ total
+      pub rest : stepsOf (4 * j + n - p) p j ys s ≡ total
       pub is : Is R.the-row s (v ∷ [])
 
     abbrev Nearer : Upto → Upto → Type 0
@@ -240,21 +240,21 @@ module _ {M : Type 1} (𝓤 : URA M) (H : Heap 𝓤) (A : Atoms 𝓤) (W : Given
           assigns ! (of-opd ! (load ! (from ! (stop !)) (look ! 2 refl))) (from ! (stop !)) (init ! 10 refl (typed W (elem p) g)) $
           -- `step`
           nothing ! $ use1 W (raw (Step 𝓤 H A mem run .pre (to-step s v p))) (goes-step s v p lt gs g) $
-          calls-at ! fm (Step 𝓤 H A mem run) known-step (to-step s v p) (and-then ! (load ! (from ! (stop !)) (look ! 17 refl)) (and-then ! (load ! (from ! (stop !)) (look ! 11 refl)) (and-then ! (load ! (from ! (stop !)) (look ! 21 refl)) (and-then ! (load ! (from ! (stop !)) (look ! 15 refl)) (and-then ! (load ! (from ! (stop !)) (look ! 19 refl)) (no-more !)))))) (λ u.
-          hears ! tt R.the-row (‵ ftrue) (λ r. r ≡ stepOf s (elem p) j p round) (λ r. said 𝓤 H A step.ended tt (step-args s p) (r ≡ stepOf s (elem p) j p round)) u (λ r e is.
+          calls-at ! fm (Step 𝓤 H A mem run) known-step (to-step s v p) (and-then ! (load ! (from ! (stop !)) (look ! 17 refl)) (and-then ! (load ! (from ! (stop !)) (look ! 11 refl)) (and-then ! (load ! (from ! (stop !)) (look ! 21 refl)) (and-then ! (load ! (from ! (stop !)) (look ! 15 refl)) (no-more !))))) (λ u.
+          hears ! tt R.the-row (‵ ftrue) (λ r. r ≡ stepOf s (elem p) j p) (λ r. said 𝓤 H A step.ended tt (step-args s p) (r ≡ stepOf s (elem p) j p)) u (λ r e is.
           land ! (from ! (stop !)) (store ! 17 refl (LL.lawful R.the-type R′.the-laws 𝓤 H A W .typed r _ is .0)) $ drop ! $
           assigns-last ! (bin ! (load ! (from ! (stop !)) (look ! 14 refl)) (lit ! tt) (record { fits = fits })) (from ! (stop !)) (store ! 14 refl (tt, record { fits = fits })) $
           forget ! 10 refl $ forget ! 8 refl $ forget ! 6 refl $ forget ! 4 refl $ forget ! 2 refl $
           keep ! (2 ∷ 3 ∷ 4 ∷ 5 ∷ 6 ∷ 7 ∷ 8 ∷ 9 ∷ 10 ∷ 11 ∷ 12 ∷ 13 ∷ 14 ∷ 15 ∷ 16 ∷ 17 ∷ 18 ∷ 19 ∷ 20 ∷ 21 ∷ 22 ∷ 23 ∷ 24 ∷ 25 ∷ 26 ∷ 27 ∷ 28 ∷ 29 ∷ 1 ∷ 0 ∷ []) $
-          again ! Nearer At t (record { p = p + 1; s = r; v = u; le = le; rest = rw (add-one p, e) (steps-next ys j round p (4 * j + n) s lt) ∙ t .rest; is = is }) dec)))))
+          again ! Nearer At t (record { p = p + 1; s = r; v = u; le = le; rest = rw (add-one p, e) (steps-next ys j p (4 * j + n) s lt) ∙ t .rest; is = is }) dec)))))
           (λ over.
           jumps ! $ exec ! C Λ En Mir.t-5 (atRet En Post) $
-          calls-one ! fm R.the-row (LL.makes R.the-type R′.the-plain 𝓤 H A) s v gs u64 (λ (k : ℕ). k ≡ s .key) key-of.ended tt (s, tt) (known-key ((tt, tt, tt, (s, tt), (v ∷ [], tt)), tt)) (and-then ! (load ! (from ! (stop !)) (look ! 15 refl)) (no-more !)) (λ u k e is.
+          calls-two ! fm R.the-row (LL.makes R.the-type R′.the-plain 𝓤 H A) s v gs u32 (uint-makes 𝓤 H A W w32) round (vint w32 round) (refl, g-round) u64 (λ (k : ℕ). k ≡ runKey s round) key-of.ended tt (s, (round, tt)) (known-key ((tt, tt, tt, (s, (round, tt)), (v ∷ [], (vint w32 round ∷ [], tt))), tt)) (and-then ! (load ! (from ! (stop !)) (look ! 15 refl)) (and-then ! (load ! (from ! (stop !)) (look ! 17 refl)) (no-more !))) (λ u k e is.
           land ! (from ! (stop !)) (init ! 26 refl (word-typed W k u is)) $ returns ! (look ! 26 refl) $
           forget ! 6 refl $ forget ! 10 refl $ forget ! 12 refl $ forget ! 14 refl $ forget ! 16 refl $ forget ! 18 refl $ forget ! 20 refl $ forget ! 22 refl $ forget ! 24 refl $ forget ! 26 refl $
           move ! (26 ∷ 27 ∷ []) $ free1 ! $ move ! (24 ∷ 25 ∷ []) $ free1 ! $ move ! (22 ∷ 23 ∷ []) $ free1 ! $ move ! (20 ∷ 21 ∷ []) $ free1 ! $ move ! (18 ∷ 19 ∷ []) $ free1 ! $ move ! (16 ∷ 17 ∷ []) $ free1 ! $ move ! (14 ∷ 15 ∷ []) $ free1 ! $ move ! (12 ∷ 13 ∷ []) $ free1 ! $ move ! (10 ∷ 11 ∷ []) $ free1 ! $ move ! (8 ∷ 9 ∷ []) $ free1 ! $ move ! (6 ∷ 7 ∷ []) $ free1 ! $ move ! (4 ∷ 5 ∷ []) $ free1 ! $ move ! (2 ∷ 3 ∷ []) $ free1 ! $ move ! (0 ∷ 1 ∷ []) $ free1 ! $ free0 ! $
           keep ! (0 ∷ 1 ∷ []) $
-          by ! (exits k u is (e ∙ ap (λ (z : Run). z .key) (sym (steps-end ys j round p (4 * j + n) s (nltb→le p (4 * j + n) over)) ∙ t .rest)))))
+          by ! (exits k u is (e ∙ ap (λ (z : Run). runKey z round) (sym (steps-end ys j p (4 * j + n) s (nltb→le p (4 * j + n) over)) ∙ t .rest)))))
 
     walk : ent 𝓤 (onEntry 𝓤 H A frames.signature (κ, tt) (q, tt) arg at) (WpFn 𝓤 H C Λ code.function (sl ∷ vint w64 key ∷ vint w64 n ∷ vint w64 j ∷ vint w32 round ∷ []) Post)
     walk =

@@ -9,11 +9,11 @@ use Rattle.scan.proofs.step.Tie as tie
 
 returns : tie.Need-returns
 unfolding stepOf
-returns c = rw (sym (c .before .slot-is-valid .ensures) ∙ not-true _ (c .if1 .taken))
+returns c = rw (sym (c .before .slot-follows .ensures) ∙ not-true _ (c .if1 .taken))
 
 returns-2 : tie.Need-returns-2
 unfolding stepOf
-returns-2 c = c .with-frame .ensures ∙ sym (rw (sym (c .before .before .before .slot-is-valid .ensures) ∙ not-false _ (c .before .before .if1 .left)))
+returns-2 c = c .with-frame .ensures ∙ sym (rw (sym (c .before .before .before .slot-follows .ensures) ∙ not-false _ (c .before .before .if1 .left)))
 
 pub step-spec : {M : Type 1} → statement M
 step-spec =
