@@ -8,7 +8,7 @@ use native.Mathlib.Nat.{add-zero}
 use native.Mathlib.Omega.{arith}
 use lib.Dec.{eqb}
 use lib.ListN.{length, set, drop}
-use lib.Seq.{set-set, set-getD, paste-zero}
+use lib.Seq.{set-set, set-getD, getD-set-other, paste-zero}
 use Rattle.buffers.specs.Parts.{over}
 use Rattle.operation.specs.Format.{headLength, header, encode}
 use Rattle.operation.specs.declared.Operation.{Operation}
@@ -21,17 +21,17 @@ use Rattle.slots.proofs.Blocks.{set-in-block}
 use Rattle.plain_bus.specs.Held.{busOff}
 use Rattle.plain_bus.specs.Submit.{formatError}
 use Rattle.bus_state.specs.Memory.{held, slotsPerNode, bytesPerSlot, bytesPerQueue, noNode, nodeState}
-use Rattle.bus_state.specs.Entries.{withEntry, entryStatus}
+use Rattle.bus_state.specs.Entries.{withEntry, entryStatus, entryFill}
 use Rattle.bus_state.specs.declared.State.{State}
 use Rattle.bus_state.specs.declared.NodeState.{NodeState}
 use Rattle.bus_model.specs.Primitives.{setEntry, fillSlot, putFrame, append, clearNode, inTurn}
 use Rattle.bus_model.specs.Submit.{statusOf, statusIn, wakeupAt, wakeAt}
-use Rattle.submission.specs.Counting.{isOff, addFill, unreached, wokenAt, wokenFrom, answerLength, cleared, statusSet, entryAfter}
+use Rattle.submission.specs.Counting.{isOff, unreached, wakeupLength, entryWoken, wokenFrom, wokenBy, answerLength, cleared, statusSet, entryAfter}
 use Rattle.submission.specs.Carrying.{memoryAfter, queueWith, wakeupLaid, wakeupsLaid}
 use Rattle.submission.specs.declared.Effect.{Effect}
 use Rattle.submission.specs.declared.Effect.the-variants.{Nothing, Transmit, Answer, SetRate, SetBehaviour, SetStatus, Wake}
-use Rattle.submission.proofs.Entries.{entry-there, entry-again}
-use Rattle.submission.proofs.Wakes.{woken-sender}
+use Rattle.submission.proofs.Entries.{entry-there, entry-again, stored-again}
+use Rattle.submission.proofs.Wakes.{fill-none, laid-alike, woken-sender}
 
 -- nothing but the sender's entry changes
 abbrev pub quiet : NodeState → Effect → Bool
@@ -57,26 +57,32 @@ module _ (s : State) (k j : ℕ) (l : List Slot) (p q : List ℕ) where
       let d = nodeState s j in
       rw (add-zero (nodeState s j .fill), ← paste-zero q (bytesPerQueue * j + nodeState s j .fill) [], set-getD (s .nodes) j noNode)
 
-  append-wakeup : append (held s l p q) j (encode Wakeup []) ≡ held (addFill s j 8) l p (queueWith (nodeState s j) j q (encode Wakeup []))
+  append-wakeup : append (held s l p q) j (encode Wakeup [])
+      ≡ held (withEntry s j (entryFill (nodeState s j) (nodeState s j .fill + 8))) l p (queueWith (nodeState s j) j q (encode Wakeup []))
   unfolding append setEntry encode header
   append-wakeup = refl
 
-  wake-one : wakeAt k (held s l p q) j ≡ held (wokenAt s k j) l p (wakeupLaid s k j q)
-  unfolding wakeupAt wokenAt wakeupLaid
-  wake-one = go (unreached (nodeState s j .status) k j)
+  wake-one : wakeAt k (held s l p q) j ≡ held (withEntry s j (entryWoken (nodeState s j) k 1 j)) l p (wakeupLaid (nodeState s j) k 0 j q)
+  unfolding wakeupAt wakeupLaid wakeupLength
+  wake-one = rw (fill-none (nodeState s j) k j) (go (unreached (nodeState s j .status) k j))
     where
       go : (t : Bool)
           → append (held s l p q) j (cond t [] (encode Wakeup []))
-          ≡ held (cond t s (addFill s j 8)) l p (cond t q (queueWith (nodeState s j) j q (encode Wakeup [])))
-      go true = append-none
+          ≡ held (withEntry s j (entryFill (nodeState s j) (nodeState s j .fill + 1 * cond t 0 8))) l p (cond t q (queueWith (nodeState s j) j q (encode Wakeup [])))
+      go true = append-none ∙ rw (add-zero (nodeState s j .fill), set-getD (s .nodes) j noNode)
       go false = append-wakeup
 
 pub woken-memory : (s : State) (k j n : ℕ) (l : List Slot) (p q : List ℕ)
-    → inTurn (wakeAt k) j n (held s l p q) ≡ held (wokenFrom s k j n) l p (wakeupsLaid s k j n q)
+    → inTurn (wakeAt k) j n (held s l p q)
+    ≡ held (record { count = s .count; round = s .round; nodes = wokenFrom (s .nodes) k 1 j n }) l p (wakeupsLaid (s .nodes) k 0 j n q)
 unfolding inTurn wokenFrom wakeupsLaid
 woken-memory s k j zero l p q = refl
 woken-memory s k j (suc n) l p q =
-    ap (inTurn (wakeAt k) (suc j) n) (wake-one s k j l p q) ∙ woken-memory (wokenAt s k j) k (suc j) n l p (wakeupLaid s k j q)
+    let x = entryWoken (nodeState s j) k 1 j in
+    let y = wakeupLaid (nodeState s j) k 0 j q in
+    ap (inTurn (wakeAt k) (suc j) n) (wake-one s k j l p q)
+    ∙ woken-memory (withEntry s j x) k (suc j) n l p y
+    ∙ rw (laid-alike (set (s .nodes) j x) (s .nodes) k 0 0 (suc j) n y (λ i h g q. rw (getD-set-other (s .nodes) j i x noNode (λ e. omega arith))))
 
 -- ---- each step, from the state with the sender's entry d
 
@@ -110,11 +116,11 @@ module _ (s : State) (k : ℕ) (d : NodeState) (h : k < length (s .nodes)) (p q 
     after-answer z = rw (← z, ← answer-length bytes, entry-there s k d h, set-set)
 
     pub after-wake : isOff d ≡ false
-        → held (withEntry (wokenFrom (withEntry s k d) k 0 (s .count)) k (entryAfter d Wake size)) l p (wakeupsLaid (withEntry s k d) k 0 (s .count) q)
+        → held (withEntry (wokenBy (withEntry s k d) k 1) k (entryAfter d Wake size)) l p (wakeupsLaid (withEntry s k d .nodes) k 0 0 (s .count) q)
         ≡ memoryAfter (held (withEntry s k d) l p q) k Wake bytes
     unfolding memoryAfter entryAfter
     after-wake o =
-        rw (entry-there s k d h, o, woken-sender (withEntry s k d) k 0 (s .count) d (entry-there s k d h))
+        rw (entry-there s k d h, o, stored-again (wokenBy (withEntry s k d) k 1) k d (woken-sender k 1 (withEntry s k d .nodes) 0 (s .count) ∙ entry-there s k d h))
         (sym (woken-memory (withEntry s k d) k 0 (s .count) l p q))
 
   -- a Transmit, where the node's four slots are held apart

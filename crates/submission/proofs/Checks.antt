@@ -32,11 +32,11 @@ answer-fits d size e = go (leb (d .fill + answerLength size) bytesPerQueue) refl
     go false q e = let z : _≡_ {A = ℕ} 0 1 = cc in absurd (omega arith)
 
 module _ (s : State) (k size : ℕ) where
-  pub wake-room : check s k Wake size ≡ Goes → isOff (nodeState s k) ≡ false → wakeupRoom s k 0 (s .count) ≡ true
+  pub wake-room : check s k Wake size ≡ Goes → isOff (nodeState s k) ≡ false → wakeupRoom (s .nodes) k 1 0 (s .count) ≡ true
   unfolding check isWakeup
-  wake-room e o = go (wakeupRoom s k 0 (s .count)) refl (rw o at e)
+  wake-room e o = go (wakeupRoom (s .nodes) k 1 0 (s .count)) refl (rw o at e)
     where
-      go : (t : Bool) → wakeupRoom s k 0 (s .count) ≡ t → cond t Goes QueueFull ≡ Goes → wakeupRoom s k 0 (s .count) ≡ true
+      go : (t : Bool) → wakeupRoom (s .nodes) k 1 0 (s .count) ≡ t → cond t Goes QueueFull ≡ Goes → wakeupRoom (s .nodes) k 1 0 (s .count) ≡ true
       go true q e = q
       go false q e = let z : _≡_ {A = ℕ} 0 1 = cc in absurd (omega arith)
 

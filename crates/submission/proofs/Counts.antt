@@ -4,6 +4,7 @@ use mathlib.Core.Path.{_≡_, refl, sym, ap, _∙_}
 use mathlib.Core.Bool.{Bool, true, false, cond, not}
 use mathlib.Core.List.{List, [], _∷_}
 use Prim.Native.Nat.{ℕ, zero, suc, _+_, _-_}
+use native.Mathlib.Nat.{one-mul}
 use lib.Dec.{leb, eqb}
 use lib.ListN.{length, set, drop}
 use Rattle.operation.specs.Format.{headLength, header, encode}
@@ -19,7 +20,7 @@ use Rattle.bus_state.specs.declared.NodeState.{NodeState}
 use Rattle.bus_model.specs.Primitives.{entryAt, offAt, setEntry, putFrame, fillSlot, append, clearNode}
 use Rattle.bus_model.specs.Submit.{Progress, goesOn, stops, roomAt, roomForEach, transmitIn, configureIn, statusOf, statusIn, wakeupAt, wakeupIn, answerIn, itemIn, itemsIn}
 use Rattle.submission.specs.Effects.{operationEffect, faultEffect, effectOf}
-use Rattle.submission.specs.Counting.{isWakeup, unreached, wakeupLength, wakeupRoom, wokenFrom, cleared, statusSet, entryCheck, entryAfter, check, stateAfter, andThen, checkItems}
+use Rattle.submission.specs.Counting.{isWakeup, unreached, wakeupLength, wakeupRoom, wokenBy, cleared, statusSet, entryCheck, entryAfter, check, stateAfter, andThen, checkItems}
 use Rattle.submission.specs.Carrying.{memoryAfter, memoryAfterAll}
 use Rattle.submission.specs.declared.Effect.{Effect}
 use Rattle.submission.specs.declared.Effect.the-variants.{Nothing, Transmit, Answer, SetRate, SetBehaviour, SetStatus, Wake}
@@ -63,14 +64,14 @@ module _ (m : Memory) (k : ℕ) where
       go true = refl
       go false = refl
 
-  room-counts : (j n : ℕ) → roomForEach (wakeupAt k m) m j n ≡ wakeupRoom (m .state) k j n
+  room-counts : (j n : ℕ) → roomForEach (wakeupAt k m) m j n ≡ wakeupRoom (m .state .nodes) k 1 j n
   unfolding roomForEach wakeupRoom
   room-counts j zero = refl
-  room-counts j (suc n) = rw (wakeup-length j, room-counts (suc j) n)
+  room-counts j (suc n) = rw (wakeup-length j, one-mul (wakeupLength (entryAt m j .status) k j), room-counts (suc j) n)
 
   wake-counts : (bytes : List ℕ) → wakeupIn m k ≡ gives (check (m .state) k Wake (length bytes)) (memoryAfter m k Wake bytes)
   unfolding wakeupIn check isWakeup entryCheck memoryAfter
-  wake-counts bytes = rw (room-counts 0 (m .state .count)) (go (offAt m k) (wakeupRoom (m .state) k 0 (m .state .count)) _)
+  wake-counts bytes = rw (room-counts 0 (m .state .count)) (go (offAt m k) (wakeupRoom (m .state .nodes) k 1 0 (m .state .count)) _)
     where
       go : (o r : Bool) (x : Memory)
           → cond o (goesOn m) (cond r (goesOn x) (stops queueFull)) ≡ gives (cond (not o) (cond r Goes QueueFull) Goes) (cond o m x)
@@ -130,8 +131,8 @@ module _ (m : Memory) (k : ℕ) where
   state-counts Wake bytes =
       go (offAt m k) _ (ap (λ (x : Memory). x .state) (woken-memory (m .state) k 0 (m .state .count) (m .slots) (m .payload) (m .queues)))
     where
-      go : (o : Bool) (x : Memory) → x .state ≡ wokenFrom (m .state) k 0 (m .state .count)
-          → cond o m x .state ≡ cond (not o) (wokenFrom (m .state) k 0 (m .state .count)) (withEntry (m .state) k (entryAt m k))
+      go : (o : Bool) (x : Memory) → x .state ≡ wokenBy (m .state) k 1
+          → cond o m x .state ≡ cond (not o) (wokenBy (m .state) k 1) (withEntry (m .state) k (entryAt m k))
       go true x e = sym (same-entry (m .state) k)
       go false x e = e
 

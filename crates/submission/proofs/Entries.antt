@@ -1,6 +1,6 @@
 -- Laws of one entry of the state, held apart from it and stored again.
 -- Assumes nothing.
-use mathlib.Core.Path.{_≡_, refl, _∙_}
+use mathlib.Core.Path.{_≡_, refl, _∙_, sym}
 use mathlib.Core.Bool.{Bool, true, false}
 use Prim.Native.Nat.{ℕ, _≤_, _<_}
 use lib.Dec.{ltb}
@@ -15,6 +15,10 @@ use Rattle.bus_state.specs.declared.NodeState.{NodeState}
 -- the entry that is there, stored
 pub same-entry : (s : State) (k : ℕ) → withEntry s k (nodeState s k) ≡ s
 same-entry s k = rw (set-getD (s .nodes) k noNode)
+
+-- also under another name
+pub stored-again : (s : State) (k : ℕ) (d : NodeState) → nodeState s k ≡ d → withEntry s k d ≡ s
+stored-again s k d e = rw (sym e) (same-entry s k)
 
 -- the entry that was stored is there
 pub entry-there : (s : State) (k : ℕ) (d : NodeState) → k < length (s .nodes) → nodeState (withEntry s k d) k ≡ d

@@ -6,6 +6,8 @@ pub mod Takes
 pub mod Walks
 pub mod Lays
 pub mod Carries
+pub mod Stands
 pub mod Counts
+pub mod Blocks
 pub mod Turns
 pub mod Submits

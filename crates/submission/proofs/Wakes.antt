@@ -1,143 +1,277 @@
--- Laws of a Wakeup on the state, one node at a time.
+-- Laws of Wakeups on the entries of all nodes: one node at a time, then what they leave at each node.
 -- Assumes nothing.
 use mathlib.Core.Path.{_≡_, refl, sym, ap, _∙_}
 use mathlib.Core.Bool.{Bool, true, false, cond, _&&_, _||_}
 use mathlib.Core.List.{List}
-use Prim.Native.Nat.{ℕ, zero, suc, _-_, _≤_, _<_}
+use Prim.Native.Nat.{ℕ, zero, suc, _+_, _*_, _-_, _≤_, _<_}
 use native.Mathlib.Omega.{arith}
-use lib.Dec.{leb, eqb}
-use lib.ListN.{length, length-set}
-use lib.Seq.{getD-set-other}
-use borrow.Author.Tests.{leb-true, le-leb, lt-leb, eqb-false}
+use lib.Dec.{leb, eqb, ltb}
+use lib.ListN.{length, getD, set, length-set}
+use lib.Seq.{getD-set-same, getD-set-other, set-getD, ext-getD}
+use borrow.Author.Tests.{leb-true, le-leb, lt-leb, eqb-true, eqb-false, ltb-true, ltb-false, eq-eqb}
 use Rattle.operation.proofs.Tests.{both}
 use Rattle.plain_bus.specs.Held.{busOff}
-use Rattle.bus_state.specs.Memory.{bytesPerQueue, noNode, nodeState}
-use Rattle.bus_state.specs.Entries.{withEntry}
-use Rattle.bus_state.specs.declared.State.{State}
+use Rattle.bus_state.specs.Memory.{bytesPerQueue, noNode}
 use Rattle.bus_state.specs.declared.NodeState.{NodeState}
-use Rattle.submission.specs.Counting.{addFill, unreached, wakeupLength, fillWoken, wakeupRoom, wokenAt, wokenFrom}
+use Rattle.submission.specs.Counting.{unreached, wakeupLength, fillWoken, entryWoken, wakeupRoom, wokenFrom}
 use Rattle.submission.specs.Carrying.{wakeupLaid, wakeupsLaid}
-use Rattle.submission.proofs.Entries.{same-entry}
 
--- one node, and those after it
-room-step : (s : State) (k j count : ℕ) → j < count
-    → wakeupRoom s k j (count - j)
-    ≡ (leb (fillWoken s k j) bytesPerQueue && wakeupRoom s k (suc j) (count - suc j))
-unfolding wakeupRoom
-room-step s k j count h =
-    let n : count - j ≡ suc (count - suc j) = omega arith in
-    ap (λ (i : ℕ). wakeupRoom s k j i) n
+-- ---- two lists of entries that are alike from node j on
 
-pub room-end : (s : State) (k j count : ℕ) → count ≤ j → wakeupRoom s k j (count - j) ≡ true
-unfolding wakeupRoom
-room-end s k j count h =
-    let n : count - j ≡ 0 = omega arith in
-    ap (λ (i : ℕ). wakeupRoom s k j i) n
+module _ (a b : List NodeState) (k u v : ℕ) where
+  pub room-alike : (j n : ℕ)
+      → ((i : ℕ) → j ≤ i → i < j + n
+      → leb (fillWoken (getD a i noNode) k u i) bytesPerQueue ≡ leb (fillWoken (getD b i noNode) k v i) bytesPerQueue)
+      → wakeupRoom a k u j n ≡ wakeupRoom b k v j n
+  unfolding wakeupRoom
+  room-alike j zero e = refl
+  room-alike j (suc n) e = rw (e j (omega arith) (omega arith), room-alike (suc j) n (λ i l h. e i (omega arith) (omega arith)))
 
-pub room-bad : (s : State) (k j count : ℕ) → j < count → bytesPerQueue < fillWoken s k j
-    → wakeupRoom s k j (count - j) ≡ false
-room-bad s k j count h e = room-step s k j count h ∙ rw (lt-leb _ bytesPerQueue e)
+  pub laid-alike : (j n : ℕ) (queues : List ℕ)
+      → ((i : ℕ) → j ≤ i → i < j + n → (q : List ℕ) → wakeupLaid (getD a i noNode) k u i q ≡ wakeupLaid (getD b i noNode) k v i q)
+      → wakeupsLaid a k u j n queues ≡ wakeupsLaid b k v j n queues
+  unfolding wakeupsLaid
+  laid-alike j zero queues e = refl
+  laid-alike j (suc n) queues e =
+      rw (e j (omega arith) (omega arith) queues) (laid-alike (suc j) n _ (λ i l h. e i (omega arith) (omega arith)))
 
-pub room-good : (s : State) (k j count : ℕ) → j < count → fillWoken s k j ≤ bytesPerQueue
-    → wakeupRoom s k j (count - j) ≡ wakeupRoom s k (suc j) (count - suc j)
-room-good s k j count h e = room-step s k j count h ∙ rw (le-leb _ bytesPerQueue e)
+-- ---- going over the nodes, of which `count` are attached
 
-pub room-here : (s : State) (k j count : ℕ) → j < count → wakeupRoom s k j (count - j) ≡ true
-    → (fillWoken s k j ≤ bytesPerQueue) × (wakeupRoom s k (suc j) (count - suc j) ≡ true)
-room-here s k j count h e =
-    let p = both (leb (fillWoken s k j) bytesPerQueue) _ (sym (room-step s k j count h) ∙ e) in
-    (leb-true _ bytesPerQueue (p .0), p .1)
+module _ (nodes : List NodeState) (k u j count : ℕ) where
+  room-step : j < count
+      → wakeupRoom nodes k u j (count - j)
+      ≡ (leb (fillWoken (getD nodes j noNode) k u j) bytesPerQueue && wakeupRoom nodes k u (suc j) (count - suc j))
+  unfolding wakeupRoom
+  room-step h =
+      let n : count - j ≡ suc (count - suc j) = omega arith in
+      ap (λ (i : ℕ). wakeupRoom nodes k u j i) n
 
--- a node that gets a Wakeup leaves the entries of the others
-woken-other : (s : State) (k j i : ℕ) → j < i → nodeState (wokenAt s k j) i ≡ nodeState s i
-unfolding wokenAt
-woken-other s k j i h = go (unreached (nodeState s j .status) k j)
-  where
-    go : (t : Bool) → nodeState (cond t s (addFill s j 8)) i ≡ nodeState s i
-    go true = refl
-    go false = getD-set-other (s .nodes) j i _ noNode (λ e. omega arith)
+  pub room-end : count ≤ j → wakeupRoom nodes k u j (count - j) ≡ true
+  unfolding wakeupRoom
+  room-end h =
+      let n : count - j ≡ 0 = omega arith in
+      ap (λ (i : ℕ). wakeupRoom nodes k u j i) n
 
-room-after : (s : State) (k j i n : ℕ) → j < i → wakeupRoom (wokenAt s k j) k i n ≡ wakeupRoom s k i n
-unfolding wakeupRoom wakeupLength
-room-after s k j i zero h = refl
-room-after s k j i (suc n) h = rw (woken-other s k j i h, room-after s k j (suc i) n (omega arith))
+  pub room-bad : j < count → bytesPerQueue < fillWoken (getD nodes j noNode) k u j → wakeupRoom nodes k u j (count - j) ≡ false
+  room-bad h e = room-step h ∙ rw (lt-leb _ bytesPerQueue e)
 
-pub room-next : (s : State) (k j count : ℕ) → j < count → wakeupRoom s k j (count - j) ≡ true
-    → wakeupRoom (wokenAt s k j) k (suc j) (count - suc j) ≡ true
-room-next s k j count h e = room-after s k j (suc j) (count - suc j) (omega arith) ∙ room-here s k j count h e .1
+  pub room-good : j < count → fillWoken (getD nodes j noNode) k u j ≤ bytesPerQueue
+      → wakeupRoom nodes k u j (count - j) ≡ wakeupRoom nodes k u (suc j) (count - suc j)
+  room-good h e = room-step h ∙ rw (le-leb _ bytesPerQueue e)
 
-pub woken-step : (s : State) (k j count : ℕ) → j < count
-    → wokenFrom s k j (count - j) ≡ wokenFrom (wokenAt s k j) k (suc j) (count - suc j)
-unfolding wokenFrom
-woken-step s k j count h =
-    let n : count - j ≡ suc (count - suc j) = omega arith in
-    ap (λ (i : ℕ). wokenFrom s k j i) n
+  pub room-here : j < count → wakeupRoom nodes k u j (count - j) ≡ true
+      → (fillWoken (getD nodes j noNode) k u j ≤ bytesPerQueue) × (wakeupRoom nodes k u (suc j) (count - suc j) ≡ true)
+  room-here h e =
+      let p = both (leb (fillWoken (getD nodes j noNode) k u j) bytesPerQueue) _ (sym (room-step h) ∙ e) in
+      (leb-true _ bytesPerQueue (p .0), p .1)
 
-pub woken-end : (s : State) (k j count : ℕ) → count ≤ j → wokenFrom s k j (count - j) ≡ s
-unfolding wokenFrom
-woken-end s k j count h =
-    let n : count - j ≡ 0 = omega arith in
-    ap (λ (i : ℕ). wokenFrom s k j i) n
+  -- a change at node j leaves the room of those behind it
+  pub room-past : (x : NodeState) → j < count → wakeupRoom nodes k u j (count - j) ≡ true → wakeupRoom (set nodes j x) k u (suc j) (count - suc j) ≡ true
+  room-past x h e =
+      room-alike (set nodes j x) nodes k u u (suc j) (count - suc j) (λ i l g. rw (getD-set-other nodes j i x noNode (λ q. omega arith)))
+      ∙ room-here h e .1
 
--- the queues along with the state
-pub laid-step : (s : State) (k j count : ℕ) (queues : List ℕ) → j < count
-    → wakeupsLaid s k j (count - j) queues ≡ wakeupsLaid (wokenAt s k j) k (suc j) (count - suc j) (wakeupLaid s k j queues)
-unfolding wakeupsLaid
-laid-step s k j count queues h =
-    let n : count - j ≡ suc (count - suc j) = omega arith in
-    ap (λ (i : ℕ). wakeupsLaid s k j i queues) n
-
-pub laid-end : (s : State) (k j count : ℕ) (queues : List ℕ) → count ≤ j → wakeupsLaid s k j (count - j) queues ≡ queues
-unfolding wakeupsLaid
-laid-end s k j count queues h =
-    let n : count - j ≡ 0 = omega arith in
-    ap (λ (i : ℕ). wakeupsLaid s k j i queues) n
-
--- ---- what stays: the number of nodes, of entries, and the sender's entry
-
-module _ {A : Type 0} (f : State → A) (k : ℕ) (kept : (s : State) (j : ℕ) → f (wokenAt s k j) ≡ f s) where
-  from-kept : (s : State) (j n : ℕ) → f (wokenFrom s k j n) ≡ f s
+  pub woken-step : j < count
+      → wokenFrom nodes k u j (count - j) ≡ wokenFrom (set nodes j (entryWoken (getD nodes j noNode) k u j)) k u (suc j) (count - suc j)
   unfolding wokenFrom
-  from-kept s j zero = refl
-  from-kept s j (suc n) = from-kept (wokenAt s k j) (suc j) n ∙ kept s j
+  woken-step h =
+      let n : count - j ≡ suc (count - suc j) = omega arith in
+      ap (λ (i : ℕ). wokenFrom nodes k u j i) n
 
-at-count : (k : ℕ) (s : State) (j : ℕ) → wokenAt s k j .count ≡ s .count
-unfolding wokenAt
-at-count k s j = go (unreached (nodeState s j .status) k j)
-  where
-    go : (t : Bool) → cond t s (addFill s j 8) .count ≡ s .count
-    go true = refl
-    go false = refl
+  pub woken-end : count ≤ j → wokenFrom nodes k u j (count - j) ≡ nodes
+  unfolding wokenFrom
+  woken-end h =
+      let n : count - j ≡ 0 = omega arith in
+      ap (λ (i : ℕ). wokenFrom nodes k u j i) n
 
-at-length : (k : ℕ) (s : State) (j : ℕ) → length (wokenAt s k j .nodes) ≡ length (s .nodes)
-unfolding wokenAt
-at-length k s j = go (unreached (nodeState s j .status) k j)
-  where
-    go : (t : Bool) → length (cond t s (addFill s j 8) .nodes) ≡ length (s .nodes)
-    go true = refl
-    go false = length-set (s .nodes) j _
+  pub laid-step : (queues : List ℕ) → j < count
+      → wakeupsLaid nodes k u j (count - j) queues ≡ wakeupsLaid nodes k u (suc j) (count - suc j) (wakeupLaid (getD nodes j noNode) k u j queues)
+  unfolding wakeupsLaid
+  laid-step queues h =
+      let n : count - j ≡ suc (count - suc j) = omega arith in
+      ap (λ (i : ℕ). wakeupsLaid nodes k u j i queues) n
 
-at-sender : (k : ℕ) (s : State) (j : ℕ) → nodeState (wokenAt s k j) k ≡ nodeState s k
-unfolding wokenAt
-at-sender k s j = go (eqb j k) refl
-  where
-    other : (t : Bool) → (k ≡ j → ⊥) → nodeState (cond t s (addFill s j 8)) k ≡ nodeState s k
-    other true n = refl
-    other false n = getD-set-other (s .nodes) j k _ noNode n
+  pub laid-end : (queues : List ℕ) → count ≤ j → wakeupsLaid nodes k u j (count - j) queues ≡ queues
+  unfolding wakeupsLaid
+  laid-end queues h =
+      let n : count - j ≡ 0 = omega arith in
+      ap (λ (i : ℕ). wakeupsLaid nodes k u j i queues) n
 
-    go : (t : Bool) → eqb j k ≡ t → nodeState (cond (t || eqb (nodeState s j .status) busOff) s (addFill s j 8)) k ≡ nodeState s k
-    go true e = refl
-    go false e = other (eqb (nodeState s j .status) busOff) (λ q. eqb-false j k e (sym q))
+-- ---- one entry
 
-module _ (s : State) (k j n : ℕ) where
-  pub woken-count : wokenFrom s k j n .count ≡ s .count
-  woken-count = from-kept (λ (x : State). x .count) k (at-count k) s j n
+module _ (d : NodeState) (k i : ℕ) where
+  -- none of them changes nothing
+  pub fill-none : fillWoken d k 0 i ≡ d .fill
+  unfolding wakeupLength
+  fill-none = go (unreached (d .status) k i)
+    where
+      go : (t : Bool) → d .fill + 0 * cond t 0 8 ≡ d .fill
+      go true = omega arith
+      go false = omega arith
 
-  pub woken-length : length (wokenFrom s k j n .nodes) ≡ length (s .nodes)
-  woken-length = from-kept (λ (x : State). length (x .nodes)) k (at-length k) s j n
+  entry-none : entryWoken d k 0 i ≡ d
+  entry-none = rw fill-none
 
-  -- the sender's entry, stored again
-  pub woken-sender : (d : NodeState) → nodeState s k ≡ d → withEntry (wokenFrom s k j n) k d ≡ wokenFrom s k j n
-  woken-sender d e =
-      let q : nodeState (wokenFrom s k j n) k ≡ d = from-kept (λ (x : State). nodeState x k) k (at-sender k) s j n ∙ e in
-      rw (sym q) (same-entry (wokenFrom s k j n) k)
+  -- one more behind u of them
+  pub fill-next : (u : ℕ) → fillWoken (entryWoken d k u i) k 1 i ≡ fillWoken d k (u + 1) i
+  unfolding wakeupLength
+  fill-next u = go (unreached (d .status) k i)
+    where
+      go : (t : Bool) → d .fill + u * cond t 0 8 + 1 * cond t 0 8 ≡ d .fill + (u + 1) * cond t 0 8
+      go true = omega arith
+      go false = omega arith
+
+-- none goes to the sender
+pub self-length : (status k : ℕ) → wakeupLength status k k ≡ 0
+unfolding wakeupLength
+self-length status k = rw (eq-eqb k k refl)
+
+pub self-fill : (d : NodeState) (k u : ℕ) → fillWoken d k u k ≡ d .fill
+self-fill d k u = rw (self-length (d .status) k) (omega arith)
+
+self-entry : (d : NodeState) (k u : ℕ) → entryWoken d k u k ≡ d
+self-entry d k u = rw (self-fill d k u)
+
+self-laid : (d : NodeState) (k u : ℕ) (q : List ℕ) → wakeupLaid d k u k q ≡ q
+unfolding wakeupLaid
+self-laid d k u q = rw (eq-eqb k k refl)
+
+-- behind u of them it is laid as the first is behind the entry with u of them
+laid-behind : (d : NodeState) (k u i : ℕ) (q : List ℕ) → wakeupLaid (entryWoken d k u i) k 0 i q ≡ wakeupLaid d k u i q
+unfolding wakeupLaid
+laid-behind d k u i q = rw (fill-none (entryWoken d k u i) k i)
+
+-- ---- what they leave at each node
+
+module _ (k u : ℕ) where
+  pub woken-length : (nodes : List NodeState) (j n : ℕ) → length (wokenFrom nodes k u j n) ≡ length nodes
+  unfolding wokenFrom
+  woken-length nodes j zero = refl
+  woken-length nodes j (suc n) = woken-length _ (suc j) n ∙ length-set nodes j _
+
+  woken-before : (nodes : List NodeState) (j n i : ℕ) → i < j → getD (wokenFrom nodes k u j n) i noNode ≡ getD nodes i noNode
+  unfolding wokenFrom
+  woken-before nodes j zero i h = refl
+  woken-before nodes j (suc n) i h = woken-before _ (suc j) n i (omega arith) ∙ getD-set-other nodes j i _ noNode (λ e. omega arith)
+
+  woken-behind : (nodes : List NodeState) (j n i : ℕ) → j + n ≤ i → getD (wokenFrom nodes k u j n) i noNode ≡ getD nodes i noNode
+  unfolding wokenFrom
+  woken-behind nodes j zero i h = refl
+  woken-behind nodes j (suc n) i h = woken-behind _ (suc j) n i (omega arith) ∙ getD-set-other nodes j i _ noNode (λ e. omega arith)
+
+  woken-there : (nodes : List NodeState) (j n i : ℕ) → j ≤ i → i < j + n → i < length nodes
+      → getD (wokenFrom nodes k u j n) i noNode ≡ entryWoken (getD nodes i noNode) k u i
+  unfolding wokenFrom
+  woken-there nodes j zero i l h g = absurd (omega arith)
+  woken-there nodes j (suc n) i l h g =
+      go (eqb i j) refl (λ q. woken-there _ (suc j) n i (omega (arith, q)) (omega arith) (rw length-set g))
+    where
+      go : (t : Bool) → eqb i j ≡ t
+          → ((i ≡ j → ⊥)
+          → getD (wokenFrom (set nodes j (entryWoken (getD nodes j noNode) k u j)) k u (suc j) n) i noNode
+          ≡ entryWoken (getD (set nodes j (entryWoken (getD nodes j noNode) k u j)) i noNode) k u i)
+          → getD (wokenFrom (set nodes j (entryWoken (getD nodes j noNode) k u j)) k u (suc j) n) i noNode ≡ entryWoken (getD nodes i noNode) k u i
+      go true e later =
+          let q : i ≡ j = eqb-true i j e in
+          woken-before _ (suc j) n i (omega arith) ∙ rw q (getD-set-same nodes j _ noNode (rw q at g))
+      go false e later =
+          let q : i ≡ j → ⊥ = eqb-false i j e in
+          later q ∙ rw (getD-set-other nodes j i _ noNode q)
+
+  -- the sender's entry stays
+  pub woken-sender : (nodes : List NodeState) (j n : ℕ) → getD (wokenFrom nodes k u j n) k noNode ≡ getD nodes k noNode
+  unfolding wokenFrom
+  woken-sender nodes j zero = refl
+  woken-sender nodes j (suc n) = woken-sender _ (suc j) n ∙ go (eqb k j) refl
+    where
+      go : (t : Bool) → eqb k j ≡ t → getD (set nodes j (entryWoken (getD nodes j noNode) k u j)) k noNode ≡ getD nodes k noNode
+      go true e =
+          let q : k ≡ j = eqb-true k j e in
+          rw (← q, self-entry (getD nodes k noNode) k u, set-getD nodes k noNode)
+      go false e = getD-set-other nodes j k _ noNode (eqb-false k j e)
+
+-- none of them changes nothing
+pub woken-none : (nodes : List NodeState) (k j n : ℕ) → wokenFrom nodes k 0 j n ≡ nodes
+unfolding wokenFrom
+woken-none nodes k j zero = refl
+woken-none nodes k j (suc n) =
+    rw (entry-none (getD nodes j noNode) k j, set-getD nodes j noNode) (woken-none nodes k (suc j) n)
+
+-- ---- one more Wakeup behind u of them, from the entries with the sender's entry d
+
+module _ (nodes : List NodeState) (k u n : ℕ) (d : NodeState) (there : k < length nodes) (all : n ≤ length nodes) where
+  -- the entry of another node
+  other : (i : ℕ) → (i ≡ k → ⊥) → i < n
+      → getD (set (wokenFrom nodes k u 0 n) k d) i noNode ≡ entryWoken (getD nodes i noNode) k u i
+  other i o h = getD-set-other (wokenFrom nodes k u 0 n) k i d noNode o ∙ woken-there k u nodes 0 n i (omega arith) (omega arith) (omega arith)
+
+  sender : getD (set (wokenFrom nodes k u 0 n) k d) k noNode ≡ d
+  sender = getD-set-same (wokenFrom nodes k u 0 n) k d noNode (rw (woken-length k u nodes 0 n) there)
+
+  -- each queue has room for it as it had for u + 1
+  pub room-next : d .fill ≤ bytesPerQueue → getD nodes k noNode .fill ≤ bytesPerQueue
+      → wakeupRoom (set (wokenFrom nodes k u 0 n) k d) k 1 0 n ≡ wakeupRoom nodes k (u + 1) 0 n
+  room-next f g = room-alike _ nodes k 1 (u + 1) 0 n (λ i l h. go i (omega arith) (eqb i k) refl)
+    where
+      fits : (x : NodeState) (v : ℕ) → x .fill ≤ bytesPerQueue → leb (fillWoken x k v k) bytesPerQueue ≡ true
+      fits x v q = rw (self-fill x k v) (le-leb _ bytesPerQueue q)
+
+      go : (i : ℕ) → i < n → (t : Bool) → eqb i k ≡ t
+          → leb (fillWoken (getD (set (wokenFrom nodes k u 0 n) k d) i noNode) k 1 i) bytesPerQueue
+          ≡ leb (fillWoken (getD nodes i noNode) k (u + 1) i) bytesPerQueue
+      go i h true e =
+          let q : i ≡ k = eqb-true i k e in
+          rw (q, sender) (fits d 1 f ∙ sym (fits (getD nodes k noNode) (u + 1) g))
+      go i h false e = rw (other i (eqb-false i k e) h, fill-next (getD nodes i noNode) k i u)
+
+  -- it is laid where it is behind u of them
+  pub laid-next : (q : List ℕ) → wakeupsLaid (set (wokenFrom nodes k u 0 n) k d) k 0 0 n q ≡ wakeupsLaid nodes k u 0 n q
+  laid-next queues = laid-alike _ nodes k 0 u 0 n queues (λ i l h q. go i (omega arith) (eqb i k) refl q)
+    where
+      go : (i : ℕ) → i < n → (t : Bool) → eqb i k ≡ t → (q : List ℕ)
+          → wakeupLaid (getD (set (wokenFrom nodes k u 0 n) k d) i noNode) k 0 i q ≡ wakeupLaid (getD nodes i noNode) k u i q
+      go i h true e q = let p : i ≡ k = eqb-true i k e in rw p (self-laid _ k 0 q ∙ sym (self-laid _ k u q))
+      go i h false e q = rw (other i (eqb-false i k e) h) (laid-behind (getD nodes i noNode) k u i q)
+
+  -- and leaves what u + 1 leave
+  pub woken-next : set (wokenFrom (set (wokenFrom nodes k u 0 n) k d) k 1 0 n) k d ≡ set (wokenFrom nodes k (u + 1) 0 n) k d
+  woken-next =
+      ext-getD noNode (set (wokenFrom (set (wokenFrom nodes k u 0 n) k d) k 1 0 n) k d) (set (wokenFrom nodes k (u + 1) 0 n) k d) (sized ∙ sym sized′)
+      (λ i h. go i (eqb i k) refl)
+    where
+      long : length (wokenFrom (set (wokenFrom nodes k u 0 n) k d) k 1 0 n) ≡ length nodes
+      long = woken-length k 1 (set (wokenFrom nodes k u 0 n) k d) 0 n ∙ length-set (wokenFrom nodes k u 0 n) k d ∙ woken-length k u nodes 0 n
+
+      sized : length (set (wokenFrom (set (wokenFrom nodes k u 0 n) k d) k 1 0 n) k d) ≡ length nodes
+      sized = length-set (wokenFrom (set (wokenFrom nodes k u 0 n) k d) k 1 0 n) k d ∙ long
+
+      sized′ : length (set (wokenFrom nodes k (u + 1) 0 n) k d) ≡ length nodes
+      sized′ = length-set (wokenFrom nodes k (u + 1) 0 n) k d ∙ woken-length k (u + 1) nodes 0 n
+
+      another : (i : ℕ) → (i ≡ k → ⊥) → (t : Bool) → ltb i n ≡ t
+          → getD (wokenFrom (set (wokenFrom nodes k u 0 n) k d) k 1 0 n) i noNode ≡ getD (wokenFrom nodes k (u + 1) 0 n) i noNode
+      another i o true e =
+          let h : i < n = ltb-true i n e in
+          let l : length (set (wokenFrom nodes k u 0 n) k d) ≡ length nodes = length-set (wokenFrom nodes k u 0 n) k d ∙ woken-length k u nodes 0 n in
+          woken-there k 1 (set (wokenFrom nodes k u 0 n) k d) 0 n i (omega arith) (omega arith) (omega arith)
+          ∙ rw (other i o h, fill-next (getD nodes i noNode) k i u)
+          (sym (woken-there k (u + 1) nodes 0 n i (omega arith) (omega arith) (omega arith)))
+      another i o false e =
+          let h : n ≤ i = ltb-false i n e in
+          woken-behind k 1 (set (wokenFrom nodes k u 0 n) k d) 0 n i (omega arith)
+          ∙ getD-set-other (wokenFrom nodes k u 0 n) k i d noNode o
+          ∙ woken-behind k u nodes 0 n i (omega arith)
+          ∙ sym (woken-behind k (u + 1) nodes 0 n i (omega arith))
+
+      go : (i : ℕ) (t : Bool) → eqb i k ≡ t
+          → getD (set (wokenFrom (set (wokenFrom nodes k u 0 n) k d) k 1 0 n) k d) i noNode ≡ getD (set (wokenFrom nodes k (u + 1) 0 n) k d) i noNode
+      go i true e =
+          let q : i ≡ k = eqb-true i k e in
+          rw q
+          (getD-set-same (wokenFrom (set (wokenFrom nodes k u 0 n) k d) k 1 0 n) k d noNode (rw long there)
+          ∙ sym (getD-set-same (wokenFrom nodes k (u + 1) 0 n) k d noNode (rw (woken-length k (u + 1) nodes 0 n) there)))
+      go i false e =
+          let o = eqb-false i k e in
+          getD-set-other (wokenFrom (set (wokenFrom nodes k u 0 n) k d) k 1 0 n) k i d noNode o
+          ∙ another i o (ltb i n) refl
+          ∙ sym (getD-set-other (wokenFrom nodes k (u + 1) 0 n) k i d noNode o)

@@ -14,13 +14,13 @@ use Rattle.bus_state.specs.Entries.{withEntry}
 use Rattle.bus_state.specs.declared.State.{State}
 use Rattle.bus_state.specs.declared.NodeState.{NodeState}
 use Rattle.submission.specs.Effects.{Taken}
-use Rattle.submission.specs.Counting.{isWakeup, wakeupRoom, wokenFrom, entryCheck, entryAfter, check, stateAfter, andThen, checkItems}
+use Rattle.submission.specs.Counting.{isWakeup, wakeupRoom, wokenBy, entryCheck, entryAfter, check, stateAfter, andThen, checkItems}
 use Rattle.submission.specs.Carrying.{memoryAfter, memoryAfterAll}
 use Rattle.submission.specs.declared.Effect.{Effect}
 use Rattle.submission.specs.declared.Step.{Step}
 use Rattle.submission.specs.declared.Verdict.{Verdict}
 use Rattle.submission.specs.declared.Verdict.the-variants.{Goes, FourPending, QueueFull}
-use Rattle.submission.proofs.Entries.{entry-there, entry-last}
+use Rattle.submission.proofs.Entries.{entry-there, entry-last, stored-again}
 use Rattle.submission.proofs.Wakes.{woken-sender}
 use Rattle.submission.proofs.Counts.{state-after-step}
 use Rattle.submission.proofs.Takes.{drop-all}
@@ -28,7 +28,7 @@ use Rattle.submission.proofs.Takes.{drop-all}
 -- ---- a step from the state with the sender's entry d, by its kind
 
 module _ (s : State) (k : ℕ) (d : NodeState) (h : k < length (s .nodes)) (e : Effect) (size : ℕ) where
-  check-wakeup : isWakeup d e ≡ true → check (withEntry s k d) k e size ≡ cond (wakeupRoom (withEntry s k d) k 0 (s .count)) Goes QueueFull
+  check-wakeup : isWakeup d e ≡ true → check (withEntry s k d) k e size ≡ cond (wakeupRoom (withEntry s k d .nodes) k 1 0 (s .count)) Goes QueueFull
   unfolding check
   check-wakeup w = rw (entry-there s k d h, w)
 
@@ -36,9 +36,11 @@ module _ (s : State) (k : ℕ) (d : NodeState) (h : k < length (s .nodes)) (e : 
   unfolding check
   check-entry w = rw (entry-there s k d h, w)
 
-  after-wakeup : isWakeup d e ≡ true → stateAfter (withEntry s k d) k e size ≡ withEntry (wokenFrom (withEntry s k d) k 0 (s .count)) k d
+  after-wakeup : isWakeup d e ≡ true → stateAfter (withEntry s k d) k e size ≡ withEntry (wokenBy (withEntry s k d) k 1) k d
   unfolding stateAfter
-  after-wakeup w = rw (entry-there s k d h, w) (sym (woken-sender (withEntry s k d) k 0 (s .count) d (entry-there s k d h)))
+  after-wakeup w =
+      rw (entry-there s k d h, w)
+      (sym (stored-again (wokenBy (withEntry s k d) k 1) k d (woken-sender k 1 (withEntry s k d .nodes) 0 (s .count) ∙ entry-there s k d h)))
 
   after-entry : isWakeup d e ≡ false → stateAfter (withEntry s k d) k e size ≡ withEntry s k (entryAfter d e size)
   unfolding stateAfter
@@ -82,13 +84,13 @@ module _ (s : List ℕ) (at : ℕ) (r : Step) (t : Taken s at r) (k : ℕ) where
 
   -- by the kind of the step, from the state with the sender's entry d
   module _ (x : State) (d : NodeState) (h : k < length (x .nodes)) where
-    pub wakeup-fails : isWakeup d (r .effect) ≡ true → wakeupRoom (withEntry x k d) k 0 (x .count) ≡ false
+    pub wakeup-fails : isWakeup d (r .effect) ≡ true → wakeupRoom (withEntry x k d .nodes) k 1 0 (x .count) ≡ false
         → checkItems k (itemsOf (drop at s)) (withEntry x k d) ≡ QueueFull
     wakeup-fails w e = check-fails (withEntry x k d) QueueFull (check-wakeup x k d h (r .effect) (r .end - at) w ∙ rw e) (λ v. refl)
 
-    pub wakeup-goes : isWakeup d (r .effect) ≡ true → wakeupRoom (withEntry x k d) k 0 (x .count) ≡ true
+    pub wakeup-goes : isWakeup d (r .effect) ≡ true → wakeupRoom (withEntry x k d .nodes) k 1 0 (x .count) ≡ true
         → checkItems k (itemsOf (drop at s)) (withEntry x k d)
-        ≡ checkItems k (itemsOf (drop (r .end) s)) (withEntry (wokenFrom (withEntry x k d) k 0 (x .count)) k d)
+        ≡ checkItems k (itemsOf (drop (r .end) s)) (withEntry (wokenBy (withEntry x k d) k 1) k d)
     wakeup-goes w e =
         check-goes (withEntry x k d) (check-wakeup x k d h (r .effect) (r .end - at) w ∙ rw e)
         ∙ ap (checkItems k (itemsOf (drop (r .end) s))) (after-wakeup x k d h (r .effect) (r .end - at) w)

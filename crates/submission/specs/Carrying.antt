@@ -4,20 +4,19 @@ use Prim.Native.Nat.{ℕ, zero, suc, _+_, _*_}
 use mathlib.Core.List.{List, [], _∷_}
 use mathlib.Core.Bool.{cond}
 use lib.Dec.{ltb}
-use lib.ListN.{set, drop}
+use lib.ListN.{getD, set, drop}
 use Rattle.buffers.specs.Parts.{over}
 use Rattle.operation.specs.Format.{headLength, encode}
 use Rattle.operation.specs.declared.Operation.the-variants.{Wakeup}
 use Rattle.decoder.specs.Stream.{Item, bytesOf}
 use Rattle.plain_bus.specs.Submit.{formatError}
-use Rattle.bus_state.specs.Memory.{Memory, slotsPerNode, bytesPerQueue, nodeState}
+use Rattle.bus_state.specs.Memory.{Memory, slotsPerNode, bytesPerQueue, noNode}
 use Rattle.bus_state.specs.Entries.{entryBehaviour, entryRates}
-use Rattle.bus_state.specs.declared.State.{State}
 use Rattle.bus_state.specs.declared.NodeState.{NodeState}
 use Rattle.bus_model.specs.Primitives.{entryAt, offAt, setEntry, putFrame, append, inTurn}
 use Rattle.bus_model.specs.Submit.{statusIn, wakeAt}
 use Rattle.submission.specs.Effects.{effectOf}
-use Rattle.submission.specs.Counting.{unreached, wokenAt}
+use Rattle.submission.specs.Counting.{unreached, entryWoken}
 use Rattle.submission.specs.declared.Effect.{Effect}
 use Rattle.submission.specs.declared.Effect.the-variants.{Nothing, Transmit, Answer, SetRate, SetBehaviour, SetStatus, Wake}
 
@@ -40,13 +39,13 @@ memoryAfterAll k (i ∷ is) m = memoryAfterAll k is (memoryAfter m k (effectOf i
 abbrev pub queueWith : NodeState → ℕ → List ℕ → List ℕ → List ℕ
 queueWith d j queues bytes = over queues (bytesPerQueue * j + d .fill) bytes
 
--- the queues after node j gets a Wakeup of node k, and after n nodes from number j on do
-unfoldable pub wakeupLaid : State → ℕ → ℕ → List ℕ → List ℕ
-wakeupLaid s k j queues = cond (unreached (nodeState s j .status) k j) queues (queueWith (nodeState s j) j queues (encode Wakeup []))
+-- the queues after node j gets one more Wakeup of node k behind u of them, and after n nodes from number j on do
+unfoldable pub wakeupLaid : NodeState → ℕ → ℕ → ℕ → List ℕ → List ℕ
+wakeupLaid d k u j queues = cond (unreached (d .status) k j) queues (queueWith (entryWoken d k u j) j queues (encode Wakeup []))
 
-unfoldable pub wakeupsLaid : State → ℕ → ℕ → ℕ → List ℕ → List ℕ
-wakeupsLaid s k j zero queues = queues
-wakeupsLaid s k j (suc n) queues = wakeupsLaid (wokenAt s k j) k (suc j) n (wakeupLaid s k j queues)
+unfoldable pub wakeupsLaid : List NodeState → ℕ → ℕ → ℕ → ℕ → List ℕ → List ℕ
+wakeupsLaid nodes k u j zero queues = queues
+wakeupsLaid nodes k u j (suc n) queues = wakeupsLaid nodes k u (suc j) n (wakeupLaid (getD nodes j noNode) k u j queues)
 
 -- the first of a node's four slots; of a number past the last node slot 0
 unfoldable pub firstSlot : ℕ → ℕ

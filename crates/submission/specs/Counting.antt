@@ -1,14 +1,14 @@
 -- Submitting a buffer, as far as the state goes: every refusal and every change of the state is decided by statuses, counts and fills
 -- alone (01, "Handing in"). The lent memory takes no part.
 -- Assumes nothing.
-use Prim.Native.Nat.{ℕ, zero, suc, _+_}
+use Prim.Native.Nat.{ℕ, zero, suc, _+_, _*_}
 use mathlib.Core.List.{List, [], _∷_}
 use mathlib.Core.Bool.{Bool, true, false, cond, not, _&&_, _||_}
 use lib.Dec.{leb, eqb}
-use lib.ListN.{length, set}
+use lib.ListN.{length, getD, set}
 use Rattle.decoder.specs.Stream.{Item, bytesOf}
 use Rattle.plain_bus.specs.Held.{busOff}
-use Rattle.bus_state.specs.Memory.{slotsPerNode, bytesPerQueue, nodeState}
+use Rattle.bus_state.specs.Memory.{slotsPerNode, bytesPerQueue, noNode, nodeState}
 use Rattle.bus_state.specs.Entries.{entryStatus, entryBehaviour, entryRates, entryFill, entryPending, withEntry}
 use Rattle.bus_state.specs.declared.State.{State}
 use Rattle.bus_state.specs.declared.NodeState.{NodeState}
@@ -18,37 +18,36 @@ use Rattle.submission.specs.declared.Effect.the-variants.{Nothing, Trans
 use Rattle.submission.specs.declared.Verdict.{Verdict}
 use Rattle.submission.specs.declared.Verdict.the-variants.{Goes, FourPending, QueueFull}
 
--- ---- a Wakeup of node k: to every other node that is not Bus-Off
+-- ---- Wakeups of node k, each to every other node that is not Bus-Off, on the entries of all nodes
 
--- node j has n bytes more in its queue
-abbrev pub addFill : State → ℕ → ℕ → State
-addFill s j n = withEntry s j (entryFill (nodeState s j) (nodeState s j .fill + n))
-
--- it does not go to node j, of this status
+-- they do not go to node j, of this status
 abbrev pub unreached : ℕ → ℕ → ℕ → Bool
 unreached status k j = eqb j k || eqb status busOff
 
--- how many bytes it adds there
+-- how many bytes one adds there
 unfoldable pub wakeupLength : ℕ → ℕ → ℕ → ℕ
 wakeupLength status k j = cond (unreached status k j) 0 8
 
--- the fill of node j's queue with it
-abbrev pub fillWoken : State → ℕ → ℕ → ℕ
-fillWoken s k j = nodeState s j .fill + wakeupLength (nodeState s j .status) k j
+-- the fill of node j's queue with u of them
+abbrev pub fillWoken : NodeState → ℕ → ℕ → ℕ → ℕ
+fillWoken d k u j = d .fill + u * wakeupLength (d .status) k j
 
--- each of n queues from number j on has room for it
-unfoldable pub wakeupRoom : State → ℕ → ℕ → ℕ → Bool
-wakeupRoom s k j zero = true
-wakeupRoom s k j (suc n) = leb (fillWoken s k j) bytesPerQueue && wakeupRoom s k (suc j) n
+abbrev pub entryWoken : NodeState → ℕ → ℕ → ℕ → NodeState
+entryWoken d k u j = entryFill d (fillWoken d k u j)
 
--- node j gets it
-unfoldable pub wokenAt : State → ℕ → ℕ → State
-wokenAt s k j = cond (unreached (nodeState s j .status) k j) s (addFill s j 8)
+-- each of n queues from number j on has room for u of them
+unfoldable pub wakeupRoom : List NodeState → ℕ → ℕ → ℕ → ℕ → Bool
+wakeupRoom nodes k u j zero = true
+wakeupRoom nodes k u j (suc n) = leb (fillWoken (getD nodes j noNode) k u j) bytesPerQueue && wakeupRoom nodes k u (suc j) n
 
--- n nodes from number j on get it
-unfoldable pub wokenFrom : State → ℕ → ℕ → ℕ → State
-wokenFrom s k j zero = s
-wokenFrom s k j (suc n) = wokenFrom (wokenAt s k j) k (suc j) n
+-- n nodes from number j on get u of them
+unfoldable pub wokenFrom : List NodeState → ℕ → ℕ → ℕ → ℕ → List NodeState
+wokenFrom nodes k u j zero = nodes
+wokenFrom nodes k u j (suc n) = wokenFrom (set nodes j (entryWoken (getD nodes j noNode) k u j)) k u (suc j) n
+
+-- the state with u of them
+abbrev pub wokenBy : State → ℕ → ℕ → State
+wokenBy s k u = record { count = s .count; round = s .round; nodes = wokenFrom (s .nodes) k u 0 (s .count) }
 
 -- ---- a step, by its effect and the number of its bytes: on the sender's entry
 
@@ -102,12 +101,12 @@ entryAfter d Wake size = d
 -- whether the step can be done, or the refusal
 unfoldable pub check : State → ℕ → Effect → ℕ → Verdict
 check s k e size =
-    cond (isWakeup (nodeState s k) e) (cond (wakeupRoom s k 0 (s .count)) Goes QueueFull) (entryCheck (nodeState s k) e size)
+    cond (isWakeup (nodeState s k) e) (cond (wakeupRoom (s .nodes) k 1 0 (s .count)) Goes QueueFull) (entryCheck (nodeState s k) e size)
 
 -- the state after the step
 unfoldable pub stateAfter : State → ℕ → Effect → ℕ → State
 stateAfter s k e size =
-    cond (isWakeup (nodeState s k) e) (wokenFrom s k 0 (s .count)) (withEntry s k (entryAfter (nodeState s k) e size))
+    cond (isWakeup (nodeState s k) e) (wokenBy s k 1) (withEntry s k (entryAfter (nodeState s k) e size))
 
 -- ---- all steps of a buffer, one by one: the first that can't be done decides
 

@@ -18,7 +18,7 @@ ghost use Rattle.bus_state.specs.Entries.{withEntry};
 ghost use Rattle.bus_model.specs.Calls.{submitted};
 ghost use Rattle.outcome.specs.Outcome.{endedBy, ended};
 ghost use Rattle.submission.specs.Effects.{configurationEffect, operationEffect, faultEffect, SmallRate, NextIs};
-ghost use Rattle.submission.specs.Counting.{addFill, unreached, wakeupLength, fillWoken, wakeupRoom, wokenAt, wokenFrom, isWakeup, answerLength, statusSet, entryCheck, entryAfter, checkItems};
+ghost use Rattle.submission.specs.Counting.{unreached, fillWoken, entryWoken, wakeupRoom, wokenBy, isWakeup, answerLength, statusSet, entryCheck, entryAfter, checkItems};
 ghost use Rattle.submission.specs.Carrying.{memoryAfterAll, queueWith, wakeupLaid, wakeupsLaid, firstSlot};
 use bus_state::NodeState;
 use bus_state::State;
@@ -57,12 +57,6 @@ enum Verdict {
     Goes,
     FourPending,
     QueueFull,
-}
-
-// The state and the sender's four slots after some steps.
-struct Carried {
-    state: State,
-    block: [Slot; 4],
 }
 
 // The most bytes of a buffer.
@@ -167,43 +161,38 @@ fn step_at(buffer: &[u8], at: usize) -> Next
     }
 }
 
-// ---- a Wakeup of node k, on the state
+// ---- Wakeups of node k, on the entries of all nodes
 
-fn add_fill(s: State, j: usize, n: usize) -> State
-    requires { ⌜ (j < 8) × (nodeState s j .fill + n ≤ bytesPerQueue) ⌝ }
-    ensures { λ r. ⌜ r ≡ addFill s j n ⌝ }
-{
-    let d = bus_state::entry(s, j);
-    let fill = d.fill as usize + n;
-    bus_state::with_entry(s, j, bus_state::with_fill(d, fill as u16))
-}
-
-// It does not go to node j, of this status.
+// They do not go to node j, of this status.
 fn is_unreached(status: u8, k: usize, j: usize) -> bool
     ensures { λ r. ⌜ r ≡ unreached status k j ⌝ }
 {
     (j == k) | (status == operation::BUS_OFF)
 }
 
-fn wakeup_length(status: u8, k: usize, j: usize) -> usize
-    ensures { λ r. ⌜ (r ≡ wakeupLength status k j) × (r ≤ 8) ⌝ }
+// The fill of node j's queue with u of them.
+fn fill_woken(d: NodeState, k: usize, u: usize, j: usize) -> usize
+    requires { ⌜ u ≤ bytesPerQueue ⌝ }
+    ensures { λ r. ⌜ r ≡ fillWoken d k u j ⌝ }
 {
-    if is_unreached(status, k, j) {
-        0
-    } else {
-        WAKEUP_LENGTH
+    let fill = d.fill as usize;
+    if is_unreached(d.status, k, j) {
+        return fill;
     }
+    fill + u * WAKEUP_LENGTH
 }
 
-fn wakeup_has_room(s: State, k: usize) -> bool
-    requires { ⌜ s .count ≤ 8 ⌝ }
-    ensures { λ r. ⌜ r ≡ wakeupRoom s k 0 (s .count) ⌝ }
+// Whether every queue has room for u of them.
+fn wakeups_have_room(s: State, k: usize, u: usize) -> bool
+    requires { ⌜ (s .count ≤ 8) × (u ≤ bytesPerQueue) ⌝ }
+    ensures { λ r. ⌜ r ≡ wakeupRoom (s .nodes) k u 0 (s .count) ⌝ }
 {
     let count = s.count as usize;
+    let nodes = s.nodes;
     let mut j: usize = 0;
     while j < count {
-        let d = bus_state::entry(s, j);
-        if QUEUE_CAPACITY < d.fill as usize + wakeup_length(d.status, k, j) {
+        let d = nodes[j];
+        if QUEUE_CAPACITY < fill_woken(d, k, u, j) {
             return false;
         }
         j += 1;
@@ -211,29 +200,31 @@ fn wakeup_has_room(s: State, k: usize) -> bool
     true
 }
 
-fn woken_at(s: State, k: usize, j: usize) -> State
-    requires { ⌜ (j < 8) × (fillWoken s k j ≤ bytesPerQueue) ⌝ }
-    ensures { λ r. ⌜ r ≡ wokenAt s k j ⌝ }
+fn entry_woken(d: NodeState, k: usize, u: usize, j: usize) -> NodeState
+    requires { ⌜ (u ≤ bytesPerQueue) × (fillWoken d k u j ≤ bytesPerQueue) ⌝ }
+    ensures { λ r. ⌜ r ≡ entryWoken d k u j ⌝ }
 {
-    let d = bus_state::entry(s, j);
-    if is_unreached(d.status, k, j) {
-        return s;
-    }
-    add_fill(s, j, WAKEUP_LENGTH)
+    bus_state::with_fill(d, fill_woken(d, k, u, j) as u16)
 }
 
-fn woken(s: State, k: usize) -> State
-    requires { ⌜ (s .count ≤ 8) × (wakeupRoom s k 0 (s .count) ≡ true) ⌝ }
-    ensures { λ r. ⌜ r ≡ wokenFrom s k 0 (s .count) ⌝ }
+// The state with u of them.
+fn woken(s: State, k: usize, u: usize) -> State
+    requires { ⌜ (s .count ≤ 8) × (u ≤ bytesPerQueue) × (wakeupRoom (s .nodes) k u 0 (s .count) ≡ true) ⌝ }
+    ensures { λ r. ⌜ r ≡ wokenBy s k u ⌝ }
 {
     let count = s.count as usize;
-    let mut now = s;
+    let mut nodes = s.nodes;
     let mut j: usize = 0;
     while j < count {
-        now = woken_at(now, k, j);
+        let d = nodes[j];
+        nodes[j] = entry_woken(d, k, u, j);
         j += 1;
     }
-    now
+    State {
+        count: s.count,
+        round: s.round,
+        nodes,
+    }
 }
 
 // ---- a step, on the sender's entry
@@ -317,14 +308,15 @@ fn entry_after(d: NodeState, effect: Effect, size: usize) -> NodeState
     }
 }
 
-// Whether a buffer is taken, from the state with this entry of its sender: the first step that can't be done decides. The entry is
-// stored before a Wakeup alone, which asks for the whole state.
+// Whether a buffer is taken: the first step that can't be done decides. Every step but a Wakeup is about the sender's entry alone, so
+// the state stays as it was, beside the entry and the number of Wakeups so far.
 fn check_buffer(s: State, k: usize, entry: NodeState, buffer: &[u8]) -> Verdict
     requires { ⌜ (k < 8) × (s .count ≤ 8) × (length (now buffer) ≤ maxSubmit) ⌝ }
-    ensures { λ r. ⌜ r ≡ checkItems k (itemsOf (now (buffer .entry))) (withEntry s k entry) ⌝ }
+    requires { ⌜ (entry ≡ nodeState s k) × (entry .fill ≤ bytesPerQueue) ⌝ }
+    ensures { λ r. ⌜ r ≡ checkItems k (itemsOf (now (buffer .entry))) s ⌝ }
 {
-    let mut state = s;
     let mut d = entry;
+    let mut wakeups: usize = 0;
     let mut at: usize = 0;
     loop {
         match step_at(buffer, at) {
@@ -335,9 +327,8 @@ fn check_buffer(s: State, k: usize, entry: NodeState, buffer: &[u8]) -> Verdict
                 let effect = step.effect;
                 let size = step.end - at;
                 if is_wakeup(d, effect) {
-                    state = bus_state::with_entry(state, k, d);
-                    if wakeup_has_room(state, k) {
-                        state = woken(state, k);
+                    if wakeups_have_room(s, k, wakeups + 1) {
+                        wakeups += 1;
                         at = step.end;
                     } else {
                         return Verdict::QueueFull;
@@ -396,63 +387,80 @@ fn answer(d: NodeState, k: usize, bytes: &[u8], queues: &mut [u8])
     lay_format_error(queues, QUEUE_CAPACITY * k + d.fill as usize, bytes);
 }
 
-// Puts a Wakeup of node k into the queue of node j.
-fn wake_at(s: State, k: usize, j: usize, queues: &mut [u8]) -> State
-    requires { ⌜ (j < 8) × (fillWoken s k j ≤ bytesPerQueue) ⌝ }
+// Puts one more Wakeup of node k, behind u of them, into the queue of node j.
+fn wake_at(d: NodeState, k: usize, u: usize, j: usize, queues: &mut [u8])
+    requires { ⌜ (j < 8) × (u < bytesPerQueue) × (fillWoken d k (u + 1) j ≤ bytesPerQueue) ⌝ }
     requires { ⌜ length (now queues) ≡ queueBytes ⌝ }
-    ensures after { λ r. ⌜ r ≡ wokenAt s k j ⌝ }
-    ensures laid { λ _. ⌜ now (queues .exit) ≡ wakeupLaid s k j (now (queues .entry)) ⌝ }
+    ensures { λ _. ⌜ now (queues .exit) ≡ wakeupLaid d k u j (now (queues .entry)) ⌝ }
 {
-    let d = bus_state::entry(s, j);
     if is_unreached(d.status, k, j) {
-        return s;
+        return;
     }
-    lay_wakeup(queues, QUEUE_CAPACITY * j + d.fill as usize);
-    add_fill(s, j, WAKEUP_LENGTH)
+    lay_wakeup(queues, QUEUE_CAPACITY * j + fill_woken(d, k, u, j));
 }
 
-// Puts a Wakeup of node k into the queue of every other node that is not Bus-Off.
-fn wake(s: State, k: usize, queues: &mut [u8]) -> State
-    requires { ⌜ (s .count ≤ 8) × (wakeupRoom s k 0 (s .count) ≡ true) ⌝ }
+// Puts one more Wakeup of node k, behind u of them, into the queue of every other node that is not Bus-Off.
+fn wake(s: State, k: usize, u: usize, queues: &mut [u8])
+    requires { ⌜ (s .count ≤ 8) × (u < bytesPerQueue) × (wakeupRoom (s .nodes) k (u + 1) 0 (s .count) ≡ true) ⌝ }
     requires { ⌜ length (now queues) ≡ queueBytes ⌝ }
-    ensures after { λ r. ⌜ r ≡ wokenFrom s k 0 (s .count) ⌝ }
-    ensures laid { λ _. ⌜ now (queues .exit) ≡ wakeupsLaid s k 0 (s .count) (now (queues .entry)) ⌝ }
+    ensures { λ _. ⌜ now (queues .exit) ≡ wakeupsLaid (s .nodes) k u 0 (s .count) (now (queues .entry)) ⌝ }
 {
     let count = s.count as usize;
-    let mut now = s;
+    let nodes = s.nodes;
     let mut j: usize = 0;
     while j < count {
-        now = wake_at(now, k, j, queues);
+        let d = nodes[j];
+        wake_at(d, k, u, j, queues);
         j += 1;
     }
-    now
 }
 
-// Carries a buffer out, of which every step can be done, from the state with this entry of its sender and the sender's four slots.
-// Whatever the other slots are, they stay.
+// The state after all steps: with u Wakeups of node k, and its entry.
+fn state_left(s: State, k: usize, u: usize, d: NodeState) -> State
+    requires { ⌜ (k < 8) × (s .count ≤ 8) × (u ≤ bytesPerQueue) × (0 < u → wakeupRoom (s .nodes) k u 0 (s .count) ≡ true) ⌝ }
+    ensures { λ r. ⌜ r ≡ withEntry (wokenBy s k u) k d ⌝ }
+{
+    if u == 0 {
+        return bus_state::with_entry(s, k, d);
+    }
+    bus_state::with_entry(woken(s, k, u), k, d)
+}
+
+// Carries a buffer out, of which every step can be done, with the sender's four slots, those from `start` on. Whatever the other slots
+// are, they stay. The four are locals of their own: an array would be copied several times.
 fn carry_buffer(
     s: State,
+    start: usize,
     k: usize,
     entry: NodeState,
     buffer: &[u8],
     four: [Slot; 4],
     payload: &mut [u8],
     queues: &mut [u8],
-) -> Carried
+) -> Change
     requires { ⌜ (k < 8) × (s .count ≤ 8) × (length (now buffer) ≤ maxSubmit) ⌝ }
+    requires { ⌜ (entry ≡ nodeState s k) × (entry .fill ≤ bytesPerQueue) ⌝ }
     requires { ⌜ (length (now payload) ≡ payloadBytes) × (length (now queues) ≡ queueBytes) ⌝ }
-    requires { ⌜ checkItems k (itemsOf (now buffer)) (withEntry s k entry) ≡ Verdict.Goes ⌝ }
-    ensures { λ r. ⌜ ((slots : List Slot) → held (r .state) (setBlock slots (slotsPerNode * k) (r .block)) (now (payload .exit)) (now (queues .exit)) ≡ memoryAfterAll k (itemsOf (now (buffer .entry))) (held (withEntry s k entry) (setBlock slots (slotsPerNode * k) four) (now (payload .entry)) (now (queues .entry)))) ⌝ }
+    requires { ⌜ checkItems k (itemsOf (now buffer)) s ≡ Verdict.Goes ⌝ }
+    ensures outcome { λ r. ⌜ (r .outcome ≡ Outcome.Accepted) × (r .at ≡ start) ⌝ }
+    ensures memory { λ r. ⌜ ((slots : List Slot) → held (r .state) (setBlock slots (slotsPerNode * k) (r .block)) (now (payload .exit)) (now (queues .exit)) ≡ memoryAfterAll k (itemsOf (now (buffer .entry))) (held s (setBlock slots (slotsPerNode * k) four) (now (payload .entry)) (now (queues .entry)))) ⌝ }
 {
-    let mut state = s;
+    let mut first = four[0];
+    let mut second = four[1];
+    let mut third = four[2];
+    let mut fourth = four[3];
     let mut d = entry;
-    let mut block = four;
+    let mut wakeups: usize = 0;
     let mut at: usize = 0;
     loop {
         match step_at(buffer, at) {
             Next::End => {
-                state = bus_state::with_entry(state, k, d);
-                return Carried { state, block };
+                return Change {
+                    outcome: Outcome::Accepted,
+                    state: state_left(s, k, wakeups, d),
+                    at: start,
+                    block: [first, second, third, fourth],
+                };
             }
             Next::At(step) => {
                 let effect = step.effect;
@@ -462,9 +470,23 @@ fn carry_buffer(
                     Effect::Nothing => {}
                     Effect::Transmit(op) => {
                         if d.status != operation::BUS_OFF {
-                            let q = d.pending as usize;
                             lay_data(d, k, decoder::data(buffer, op, Cursor { at: end }), payload);
-                            block[q] = slots::slot_of(op, k as u8, state.round);
+                            let slot = slots::slot_of(op, k as u8, s.round);
+                            let q = d.pending;
+                            match q {
+                                0 => {
+                                    first = slot;
+                                }
+                                1 => {
+                                    second = slot;
+                                }
+                                2 => {
+                                    third = slot;
+                                }
+                                _ => {
+                                    fourth = slot;
+                                }
+                            }
                         }
                     }
                     Effect::Answer => {
@@ -475,7 +497,8 @@ fn carry_buffer(
                     Effect::SetStatus(_) => {}
                     Effect::Wake => {
                         if d.status != operation::BUS_OFF {
-                            state = wake(bus_state::with_entry(state, k, d), k, queues);
+                            wake(s, k, wakeups, queues);
+                            wakeups += 1;
                         }
                     }
                 }
@@ -506,7 +529,7 @@ pub fn submit(
     node: u32,
     buffer: &[u8],
 ) -> Change
-    requires { ⌜ s .count ≤ 8 ⌝ }
+    requires { ⌜ (s .count ≤ 8) × (node < s .count → nodeState s node .fill ≤ bytesPerQueue) ⌝ }
     requires { ⌜ (length (now payload) ≡ payloadBytes) × (length (now queues) ≡ queueBytes) ⌝ }
     ensures ended { λ r. ⌜ ((a : List Slot) → blockAt a (r .at) ≡ four → endedBy r a (now (payload .exit)) (now (queues .exit)) ≡ ended (submitted (held s a (now (payload .entry)) (now (queues .entry))) node (now (buffer .entry)))) ⌝ }
     ensures place { λ r. ⌜ r .at ≡ firstSlot node ⌝ }
@@ -544,16 +567,6 @@ pub fn submit(
             at,
             block: four,
         },
-        Verdict::Goes => {
-            let after = carry_buffer(s, k, d, buffer, four, payload, queues);
-            let state = after.state;
-            let block = after.block;
-            Change {
-                outcome: Outcome::Accepted,
-                state,
-                at,
-                block,
-            }
-        }
+        Verdict::Goes => carry_buffer(s, at, k, d, buffer, four, payload, queues),
     }
 }

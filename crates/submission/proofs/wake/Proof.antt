@@ -1,8 +1,8 @@
--- The loop's invariant: the nodes from j on, from the present state and queues, give what all give from the first.
-use Prim.Native.Nat.{_≤_, _-_}
-use Rattle.submission.proofs.Wakes.{room-here, room-next, woken-step, woken-end, laid-step, laid-end}
+-- The loop's invariant: the nodes from j on, from the present queues, give what all give from the first.
+use Prim.Native.Nat.{_≤_, _-_, _+_}
+use Rattle.submission.proofs.Wakes.{room-here, laid-step, laid-end}
 use Rattle.submission.specs.Carrying.{wakeupsLaid}
-use Rattle.submission.specs.Counting.{wakeupRoom, wokenFrom}
+use Rattle.submission.specs.Counting.{wakeupRoom}
 use borrow.Author.Needs.{needs}
 use denote.Ref.{now}
 use lib.ListN.{length}
@@ -14,64 +14,58 @@ use Rattle.submission.proofs.wake.Statement.{statement}
 use Rattle.submission.proofs.wake.Tie as tie
 
 abbrev Inv-loop : tie.InvT-loop
-Inv-loop k queues₀ count now₀ j₀ queues now j =
+Inv-loop k u queues₀ count nodes j₀ queues j =
     (j ≤ count)
     × (count ≤ 8)
-    × (wakeupRoom now k j (count - j) ≡ true)
-    × (wokenFrom now k j (count - j) ≡ wokenFrom now₀ k 0 count)
-    × (wakeupsLaid now k j (count - j) queues ≡ wakeupsLaid now₀ k 0 count queues₀)
+    × (wakeupRoom nodes k (u + 1) j (count - j) ≡ true)
+    × (wakeupsLaid nodes k u j (count - j) queues ≡ wakeupsLaid nodes k u 0 count queues₀)
     × (length queues ≡ length queues₀)
 
 abbrev μ-loop : tie.MeasureT-loop
-μ-loop k queues₀ count now₀ j₀ queues now j = count - j
-
-cast-count : tie.Need-cast-count Inv-loop μ-loop
-cast-count c = search needs
+μ-loop k u queues₀ count nodes j₀ queues j = count - j
 
 loop-holds : tie.Need-loop-holds Inv-loop μ-loop
 loop-holds c =
-    let b = c .before .before in
+    let b = c .before .before .before in
     let count = b .args .s .count in
     let all : count - 0 ≡ count = omega arith in
-    (omega arith, omega arith, rw all (b .pre .0 .1), rw all, rw all, refl)
+    (omega arith, omega arith, rw all (b .pre .0 .2), rw all, refl)
+
+mul-d : tie.Need-mul-d Inv-loop μ-loop
+mul-d c = search needs
+
+array-copy-out-d : tie.Need-array-copy-out-d Inv-loop μ-loop
+array-copy-out-d c = omega arith
 
 wake-at-requires : tie.Need-wake-at-requires Inv-loop μ-loop
 wake-at-requires c κs =
-    let l = c .before .before .loop in
-    let b = c .before .before .before .before .before in
+    let l = c .before .before .before .loop in
+    let b = c .before .before .before .before .before .before .before in
     let a = b .args in
-    ((omega arith, room-here (l .now) (a .k) (l .j) (a .s .count) (omega arith) (l .inv .2) .0), l .inv .5 ∙ b .pre .1)
-
-add-j : tie.Need-add-j Inv-loop μ-loop
-add-j c = search needs
-
-loop-less : tie.Need-loop-less Inv-loop μ-loop
-loop-less c = search needs
+    ((omega arith, omega arith, room-here (a .s .nodes) (a .k) (a .u + 1) (l .j) (a .s .count) (omega arith) (l .inv .2) .0), l .inv .4 ∙ b .pre .1)
 
 loop-again : tie.Need-loop-again Inv-loop μ-loop
 loop-again c =
     let w = c .before .before in
-    let l = w .before .before .before .loop in
-    let b = w .before .before .before .before .before .before in
-    let a = b .args in (
+    let l = w .before .before .before .before .loop in
+    let a = w .before .before .before .before .before .before .before .before .args in (
       omega arith,
       omega arith,
-      rw (add-one (l .j), w .wake-at .ensures .0) (room-next (l .now) (a .k) (l .j) (a .s .count) (omega arith) (l .inv .2)),
-      rw (add-one (l .j), w .wake-at .ensures .0) (sym (woken-step (l .now) (a .k) (l .j) (a .s .count) (omega arith)) ∙ l .inv .3),
-      rw (add-one (l .j), w .wake-at .ensures .0, w .wake-at .ensures .1) (sym (laid-step (l .now) (a .k) (l .j) (a .s .count) _ (omega arith)) ∙ l .inv .4),
+      rw (add-one (l .j)) (room-here (a .s .nodes) (a .k) (a .u + 1) (l .j) (a .s .count) (omega arith) (l .inv .2) .1),
+      rw (add-one (l .j), w .wake-at .ensures) (sym (laid-step (a .s .nodes) (a .k) (a .u) (l .j) (a .s .count) _ (omega arith)) ∙ l .inv .3),
       omega arith,
     )
 
 same-length : tie.Need-same-length Inv-loop μ-loop
-same-length c = c .before .loop .inv .5
+same-length c = c .before .loop .inv .4
 
 returns : tie.Need-returns Inv-loop μ-loop
 returns c =
     let l = c .before .loop in
-    let a = c .before .before .before .before .args in
-    (sym (woken-end (l .now) (a .k) (l .j) (a .s .count) (omega arith)) ∙ l .inv .3, sym (laid-end (l .now) (a .k) (l .j) (a .s .count) _ (omega arith)) ∙ l .inv .4)
+    let a = c .before .before .before .before .before .args in
+    sym (laid-end (a .s .nodes) (a .k) (a .u) (l .j) (a .s .count) _ (omega arith)) ∙ l .inv .3
 
 pub wake-spec : {M : Type 1} → statement M
 wake-spec =
     tie.close
-    (tie.spec Inv-loop μ-loop cast-count loop-holds wake-at-requires add-j loop-less loop-again same-length returns)
+    (tie.spec Inv-loop μ-loop (λ c. search needs) loop-holds mul-d array-copy-out-d wake-at-requires (λ c. search needs) (λ c. search needs) loop-again same-length returns)
