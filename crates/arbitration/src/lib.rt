@@ -444,8 +444,7 @@ fn carry_out(
     ensures { λ r. ⌜ ((a : List Slot) → DrawnAt s a owner position four ids → endedBy r a (now (payload .exit)) (now (queues .exit)) ≡ ended (carriedOut (held s a (now (payload .entry)) (now (queues .entry))) (injectionOf e) (pendingAt (held s a (now (payload .entry)) (now (queues .entry))) owner position))) ⌝ }
     ensures { λ r. ⌜ r .at ≡ 4 * owner ⌝ }
 {
-    let nodes = s.nodes;
-    let d = nodes[owner];
+    let d = bus_state::entry(s, owner);
     let at = 4 * owner;
     let winner = four[position];
     let from = 2048 * (at + position);
