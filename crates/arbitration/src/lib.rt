@@ -397,12 +397,11 @@ fn tell_all(
     ensures { λ _. ⌜ now (queues .exit) ≡ queuesAfter e (s .nodes) owner position (heldIn (contentOf winner)) ids (now (bytes .entry)) 0 (s .count) (now (queues .entry)) ⌝ }
 {
     let count = s.count as usize;
-    let nodes = s.nodes;
     let slot = 4 * owner + position;
     let mut after = s.nodes;
     let mut j = 0;
     while j < count {
-        let d = nodes[j];
+        let d = after[j];
         let mut to = tell(d, j, e, owner, size, winner, bytes, queues);
         let mut p = 4 * j;
         let end = p + discarded(d) as usize;
