@@ -354,9 +354,10 @@ pub extern "C" fn kf_submit(
     if slots.len() != SLOTS {
         return bus::wrong_memory(state);
     }
-    let key = lent_scan::scan(slots, state);
+    // Read before the pass, which goes on while they are copied.
     let at = submission::first_slot(node);
     let four = lent_slots::block_at(slots, at);
+    let key = lent_scan::scan(slots, state);
     let c = bus::submit(state, key, four, payload, queues, node, buffer);
     lent_slots::put_block(slots, bus::position_changed(c), bus::block_changed(c));
     bus::answer_changed(c)

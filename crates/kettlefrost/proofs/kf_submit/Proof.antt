@@ -238,7 +238,7 @@ module _ {M : Type 1} (𝓤 : URA M) (H : Heap 𝓤) (A : Atoms 𝓤) (W : Given
 
     module _ (l₀ l₁ l₂ l₃ l₄ l₅ l₆ l₇ l₈ l₉ l₁₀ l₁₁ l₁₂ l₁₃ l₁₄ l₁₅ l₁₆ l₁₇ l₁₈ l₁₉ l₂₀ l₂₁ l₂₂ l₂₃ l₂₄ : ℕ) where
       abbrev En : Env 𝓤 H
-      En = (ty (pointee (An.the-row .written)), l₀) ∷ (ty (pointee (St.the-row .written)), l₁) ∷ (ty (sliceTy (tyRef (named 0) mut (pointee (T.the-row .written)))), l₂) ∷ (ty (sliceTy (tyRef (named 1) mut (tyInt w8))), l₃) ∷ (ty (sliceTy (tyRef (named 2) mut (tyInt w8))), l₄) ∷ (ty (tyInt w32), l₅) ∷ (ty (sliceTy (tyRef (named 3) imm (tyInt w8))), l₆) ∷ (ty (tyInt w64), l₇) ∷ (ty (tyInt w64), l₈) ∷ (ty (tyArray (pointee (T.the-row .written)) 4), l₉) ∷ (ty (pointee (R.the-row .written)), l₁₀) ∷ (ty (tyInt w64), l₁₁) ∷ (ty (tyBool), l₁₂) ∷ (ty (tyRef erased imm (pointee (T.the-row .written))), l₁₃) ∷ (ty (sliceTy (tyRef erased imm (pointee (T.the-row .written)))), l₁₄) ∷ (ty (tyRef erased imm (pointee (T.the-row .written))), l₁₅) ∷ (ty (sliceTy (tyRef erased imm (pointee (T.the-row .written)))), l₁₆) ∷ (ty (tyRef erased mut (tyInt w8)), l₁₇) ∷ (ty (sliceTy (tyRef erased mut (tyInt w8))), l₁₈) ∷ (ty (tyRef erased mut (tyInt w8)), l₁₉) ∷ (ty (sliceTy (tyRef erased mut (tyInt w8))), l₂₀) ∷ (ty (tyUnit), l₂₁) ∷ (ty (tyRef erased mut (pointee (T.the-row .written))), l₂₂) ∷ (ty (sliceTy (tyRef erased mut (pointee (T.the-row .written)))), l₂₃) ∷ (ty (tyArray (pointee (T.the-row .written)) 4), l₂₄) ∷ []
+      En = (ty (pointee (An.the-row .written)), l₀) ∷ (ty (pointee (St.the-row .written)), l₁) ∷ (ty (sliceTy (tyRef (named 0) mut (pointee (T.the-row .written)))), l₂) ∷ (ty (sliceTy (tyRef (named 1) mut (tyInt w8))), l₃) ∷ (ty (sliceTy (tyRef (named 2) mut (tyInt w8))), l₄) ∷ (ty (tyInt w32), l₅) ∷ (ty (sliceTy (tyRef (named 3) imm (tyInt w8))), l₆) ∷ (ty (tyInt w64), l₇) ∷ (ty (tyArray (pointee (T.the-row .written)) 4), l₈) ∷ (ty (tyInt w64), l₉) ∷ (ty (pointee (R.the-row .written)), l₁₀) ∷ (ty (tyInt w64), l₁₁) ∷ (ty (tyBool), l₁₂) ∷ (ty (tyRef erased imm (pointee (T.the-row .written))), l₁₃) ∷ (ty (sliceTy (tyRef erased imm (pointee (T.the-row .written)))), l₁₄) ∷ (ty (tyRef erased imm (pointee (T.the-row .written))), l₁₅) ∷ (ty (sliceTy (tyRef erased imm (pointee (T.the-row .written)))), l₁₆) ∷ (ty (tyRef erased mut (tyInt w8)), l₁₇) ∷ (ty (sliceTy (tyRef erased mut (tyInt w8))), l₁₈) ∷ (ty (tyRef erased mut (tyInt w8)), l₁₉) ∷ (ty (sliceTy (tyRef erased mut (tyInt w8))), l₂₀) ∷ (ty (tyUnit), l₂₁) ∷ (ty (tyRef erased mut (pointee (T.the-row .written))), l₂₂) ∷ (ty (sliceTy (tyRef erased mut (pointee (T.the-row .written)))), l₂₃) ∷ (ty (tyArray (pointee (T.the-row .written)) 4), l₂₄) ∷ []
 
     walk : ent 𝓤 (onEntry 𝓤 H A call.signature κs (q₀, (q₁, (q₂, (q₃, tt)))) arg at) (WpFn 𝓤 H C Λ code.function (stateVal s ∷ v-ys ∷ v-ps ∷ v-qs ∷ vint w32 node ∷ v-bs ∷ []) Post)
     walk =
@@ -266,20 +266,20 @@ module _ {M : Type 1} (𝓤 : URA M) (H : Heap 𝓤) (A : Atoms 𝓤) (W : Given
         (λ good.
         let n32 : length ys ≡ 32 = is-so (length ys) good in
         skips ! $ exec ! C Λ (En l₀ l₁ l₂ l₃ l₄ l₅ l₆ l₇ l₈ l₉ l₁₀ l₁₁ l₁₂ l₁₃ l₁₄ l₁₅ l₁₆ l₁₇ l₁₈ l₁₉ l₂₀ l₂₁ l₂₂ l₂₃ l₂₄) Mir.t-4 (atRet (En l₀ l₁ l₂ l₃ l₄ l₅ l₆ l₇ l₈ l₉ l₁₀ l₁₁ l₁₂ l₁₃ l₁₄ l₁₅ l₁₆ l₁₇ l₁₈ l₁₉ l₂₀ l₂₁ l₂₂ l₂₃ l₂₄) Post) $
+        calls-one ! fm u32 (uint-makes 𝓤 H A W w32) node (vint w32 node) (refl, g-node) usize (λ (i : ℕ). (i ≡ firstSlot node) × (i + 4 ≤ 32)) place.ended tt (node, tt) (known-place ((tt, tt, tt, (node, tt), (vint w32 node ∷ [], tt)), tt)) (and-then ! (load ! (from ! (stop !)) (look ! 44 refl)) (no-more !)) (λ v₂ at₂ e₂ is₂.
+        land ! (from ! (stop !)) (init ! 39 refl (word-typed W at₂ v₂ is₂)) $
         assigns ! (addr ! (from ! (fld ! refl (hop ! (look-in ! 49 (sub ! 0 refl (whole !))) (stop !))))) (from ! (stop !)) (init ! 27 refl (tt, tt)) $
         assigns ! (agg ! (and-then ! (load ! (from ! (stop !)) (look ! 27 refl)) (and-then ! (load ! (from ! (fld ! refl (stop !))) (look-in ! 49 (sub ! 1 refl (whole !)))) (no-more !)))) (from ! (stop !)) (init ! 25 refl (tt, (tt, (record { fits = g-ys .0 }, tt)))) $
-        move ! (0 ∷ []) $ split ! $ move ! (5 ∷ 0 ∷ []) $ lends-mut ys ! tt (λ ν δ.
-        looks-one ys ! fm (length ys ≡ 32) n32 St.the-row (state-makes 𝓤 H A) s (stateVal s) g-s u64 (λ (k : ℕ). k ≡ scanned s ys) scan.ended (ν ∷ [], tt) (lentAt b₀ o₀ δ ys, (s, tt)) (known-scan (((ν ∷ [], tt), (fullShare, tt), tt, (lentAt b₀ o₀ δ ys, (s, tt)), (v-ys ∷ [], (stateVal s ∷ [], tt))), tt)) (and-then ! (load ! (from ! (stop !)) (look ! 26 refl)) (and-then ! (load ! (from ! (stop !)) (look ! 52 refl)) (no-more !))) (λ v₁ key e₁ is₁.
+        let within : at₂ + 4 ≤ length ys = omega (arith, e₂ .1, n32) in move ! (0 ∷ []) $ split ! $ move ! (5 ∷ 0 ∷ []) $ lends-mut ys ! tt (λ ν δ.
+        looks-one ys ! fm (at₂ + 4 ≤ length ys) within usize (uint-makes 𝓤 H A W w64) at₂ v₂ is₂ Block (λ (l : List Slot). l ≡ blockAt ys at₂) four.ended (ν ∷ [], tt) (lentAt b₀ o₀ δ ys, (at₂, tt)) (known-four (((ν ∷ [], tt), (fullShare, tt), tt, (lentAt b₀ o₀ δ ys, (at₂, tt)), (v-ys ∷ [], (v₂ ∷ [], tt))), tt)) (and-then ! (load ! (from ! (stop !)) (look ! 26 refl)) (and-then ! (load ! (from ! (stop !)) (look ! 40 refl)) (no-more !))) (λ v₃ b₃′ e₃ is₃.
         mut-back ys ! tt g-ys $
-        land ! (from ! (stop !)) (init ! 40 refl (word-typed W key v₁ is₁)) $
-        calls-one ! fm u32 (uint-makes 𝓤 H A W w32) node (vint w32 node) (refl, g-node) usize (λ (i : ℕ). (i ≡ firstSlot node) × (i + 4 ≤ 32)) place.ended tt (node, tt) (known-place ((tt, tt, tt, (node, tt), (vint w32 node ∷ [], tt)), tt)) (and-then ! (load ! (from ! (stop !)) (look ! 45 refl)) (no-more !)) (λ v₂ at₂ e₂ is₂.
-        land ! (from ! (stop !)) (init ! 38 refl (word-typed W at₂ v₂ is₂)) $
+        land ! (from ! (stop !)) (init ! 38 refl (typed-block W b₃′ v₃ is₃)) $
         assigns ! (addr ! (from ! (fld ! refl (hop ! (look-in ! 50 (sub ! 0 refl (whole !))) (stop !))))) (from ! (stop !)) (init ! 24 refl (tt, tt)) $
         assigns ! (agg ! (and-then ! (load ! (from ! (stop !)) (look ! 24 refl)) (and-then ! (load ! (from ! (fld ! refl (stop !))) (look-in ! 50 (sub ! 1 refl (whole !)))) (no-more !)))) (from ! (stop !)) (init ! 22 refl (tt, (tt, (record { fits = g-ys .0 }, tt)))) $
-        let within : at₂ + 4 ≤ length ys = omega (arith, e₂ .1, n32) in move ! (0 ∷ 1 ∷ []) $ lends-mut ys ! tt (λ ν δ.
-        looks-one ys ! fm (at₂ + 4 ≤ length ys) within usize (uint-makes 𝓤 H A W w64) at₂ v₂ is₂ Block (λ (l : List Slot). l ≡ blockAt ys at₂) four.ended (ν ∷ [], tt) (lentAt b₀ o₀ δ ys, (at₂, tt)) (known-four (((ν ∷ [], tt), (fullShare, tt), tt, (lentAt b₀ o₀ δ ys, (at₂, tt)), (v-ys ∷ [], (v₂ ∷ [], tt))), tt)) (and-then ! (load ! (from ! (stop !)) (look ! 22 refl)) (and-then ! (load ! (from ! (stop !)) (look ! 38 refl)) (no-more !))) (λ v₃ b₃′ e₃ is₃.
+        move ! (0 ∷ 1 ∷ []) $ lends-mut ys ! tt (λ ν δ.
+        looks-one ys ! fm (length ys ≡ 32) n32 St.the-row (state-makes 𝓤 H A) s (stateVal s) g-s u64 (λ (k : ℕ). k ≡ scanned s ys) scan.ended (ν ∷ [], tt) (lentAt b₀ o₀ δ ys, (s, tt)) (known-scan (((ν ∷ [], tt), (fullShare, tt), tt, (lentAt b₀ o₀ δ ys, (s, tt)), (v-ys ∷ [], (stateVal s ∷ [], tt))), tt)) (and-then ! (load ! (from ! (stop !)) (look ! 22 refl)) (and-then ! (load ! (from ! (stop !)) (look ! 52 refl)) (no-more !))) (λ v₁ key e₁ is₁.
         mut-back ys ! tt g-ys $
-        land ! (from ! (stop !)) (init ! 36 refl (typed-block W b₃′ v₃ is₃)) $
+        land ! (from ! (stop !)) (init ! 36 refl (word-typed W key v₁ is₁)) $
         let h : Scanned s key ys = record { slots = n32; key-is = sym e₁ } in
         let b : blockAt ys (firstSlot node) ≡ b₃′ = ap (blockAt ys) (sym (e₂ .0)) ∙ sym e₃ in
         assigns ! (addr ! (from ! (fld ! refl (hop ! (look-in ! 48 (sub ! 0 refl (whole !))) (stop !))))) (from ! (stop !)) (init ! 20 refl (tt, tt)) $
@@ -288,7 +288,7 @@ module _ {M : Type 1} (𝓤 : URA M) (H : Heap 𝓤) (A : Atoms 𝓤) (W : Given
         assigns ! (agg ! (and-then ! (load ! (from ! (stop !)) (look ! 16 refl)) (and-then ! (load ! (from ! (fld ! refl (stop !))) (look-in ! 46 (sub ! 1 refl (whole !)))) (no-more !)))) (from ! (stop !)) (init ! 14 refl (tt, (tt, (record { fits = g-qs .0 }, tt)))) $
         move ! (5 ∷ 4 ∷ []) $ join ! $ move ! (3 ∷ 0 ∷ 4 ∷ []) $
         use3 W (raw (Main 𝓤 H A mem run .pre (to-main key v₁ b₃′ v₃))) (goes-main key v₁ is₁ b₃′ v₃ is₃ (ys, h)) $
-        calls-at ! fm (Main 𝓤 H A mem run) known-main (to-main key v₁ b₃′ v₃) (and-then ! (load ! (from ! (stop !)) (look ! 49 refl)) (and-then ! (load ! (from ! (stop !)) (look ! 37 refl)) (and-then ! (load ! (from ! (stop !)) (look ! 33 refl)) (and-then ! (load ! (from ! (stop !)) (look ! 15 refl)) (and-then ! (load ! (from ! (stop !)) (look ! 11 refl)) (and-then ! (load ! (from ! (stop !)) (look ! 41 refl)) (and-then ! (load ! (from ! (stop !)) (look ! 39 refl)) (no-more !)))))))) (λ v₅.
+        calls-at ! fm (Main 𝓤 H A mem run) known-main (to-main key v₁ b₃′ v₃) (and-then ! (load ! (from ! (stop !)) (look ! 49 refl)) (and-then ! (load ! (from ! (stop !)) (look ! 33 refl)) (and-then ! (load ! (from ! (stop !)) (look ! 35 refl)) (and-then ! (load ! (from ! (stop !)) (look ! 15 refl)) (and-then ! (load ! (from ! (stop !)) (look ! 11 refl)) (and-then ! (load ! (from ! (stop !)) (look ! 41 refl)) (and-then ! (load ! (from ! (stop !)) (look ! 39 refl)) (no-more !)))))))) (λ v₅.
         use1 W (later (some (λ (c : Change). ((‵ (flft κ₁ q₁) ⊛ ‵ (flft κ₂ q₂) ⊛ ‵ (flft κ₃ q₃) ⊛ ‵ ftrue) ⊛ ‵ (R.the-row .own c (v₅ ∷ []))) ⊛ raw (ensured 𝓤 H A main.ended (main.clauses 𝓤 H A mem run) κs′ (main-args key b₃′) tt c)))) (id⊢ 𝓤 _) $ await ! tt $ pick ! (λ c.
         split ! $ move ! (1 ∷ []) $
         use1 W (some (λ (zs : Lasts main.ended κs′ (main-args key b₃′)). ‵ (lasts main.ended κs′ (main-args key b₃′) zs) ⊛ (raw (fact 𝓤 (Ended key b₃′ c (zs .1 .1 .1 .0) (zs .1 .1 .1 .1 .0))) ⊛ raw (fact 𝓤 (c .at + 4 ≤ 32))))) (id⊢ 𝓤 _) $ pick ! (λ zs.
