@@ -378,10 +378,11 @@ pub extern "C" fn kf_round(
     if slots.len() != SLOTS {
         return bus::wrong_memory(state);
     }
+    // Read before the pass, which goes on while they are copied.
+    let ids = lent_slots::ids(slots);
     let key = lent_scan::scan(slots, state);
     let at = scan::winner_block(key);
     let four = lent_slots::block_at(slots, at);
-    let ids = lent_slots::ids(slots);
     let c = bus::round(
         state,
         key,

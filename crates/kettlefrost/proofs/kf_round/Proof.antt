@@ -238,7 +238,7 @@ module _ {M : Type 1} (𝓤 : URA M) (H : Heap 𝓤) (A : Atoms 𝓤) (W : Given
 
     module _ (l₀ l₁ l₂ l₃ l₄ l₅ l₆ l₇ l₈ l₉ l₁₀ l₁₁ l₁₂ l₁₃ l₁₄ l₁₅ l₁₆ l₁₇ l₁₈ l₁₉ l₂₀ l₂₁ l₂₂ l₂₃ l₂₄ l₂₅ l₂₆ l₂₇ l₂₈ : ℕ) where
       abbrev En : Env 𝓤 H
-      En = (ty (pointee (An.the-row .written)), l₀) ∷ (ty (pointee (St.the-row .written)), l₁) ∷ (ty (sliceTy (tyRef (named 0) mut (pointee (T.the-row .written)))), l₂) ∷ (ty (sliceTy (tyRef (named 1) mut (tyInt w8))), l₃) ∷ (ty (sliceTy (tyRef (named 2) mut (tyInt w8))), l₄) ∷ (ty (tyInt w32), l₅) ∷ (ty (tyInt w32), l₆) ∷ (ty (tyInt w32), l₇) ∷ (ty (tyInt w64), l₈) ∷ (ty (tyInt w64), l₉) ∷ (ty (tyArray (pointee (T.the-row .written)) 4), l₁₀) ∷ (ty (tyArray (tyInt w32) 32), l₁₁) ∷ (ty (pointee (R.the-row .written)), l₁₂) ∷ (ty (tyInt w64), l₁₃) ∷ (ty (tyBool), l₁₄) ∷ (ty (tyRef erased imm (pointee (T.the-row .written))), l₁₅) ∷ (ty (sliceTy (tyRef erased imm (pointee (T.the-row .written)))), l₁₆) ∷ (ty (tyRef erased imm (pointee (T.the-row .written))), l₁₇) ∷ (ty (sliceTy (tyRef erased imm (pointee (T.the-row .written)))), l₁₈) ∷ (ty (tyRef erased imm (pointee (T.the-row .written))), l₁₉) ∷ (ty (sliceTy (tyRef erased imm (pointee (T.the-row .written)))), l₂₀) ∷ (ty (tyRef erased mut (tyInt w8)), l₂₁) ∷ (ty (sliceTy (tyRef erased mut (tyInt w8))), l₂₂) ∷ (ty (tyRef erased mut (tyInt w8)), l₂₃) ∷ (ty (sliceTy (tyRef erased mut (tyInt w8))), l₂₄) ∷ (ty (tyUnit), l₂₅) ∷ (ty (tyRef erased mut (pointee (T.the-row .written))), l₂₆) ∷ (ty (sliceTy (tyRef erased mut (pointee (T.the-row .written)))), l₂₇) ∷ (ty (tyArray (pointee (T.the-row .written)) 4), l₂₈) ∷ []
+      En = (ty (pointee (An.the-row .written)), l₀) ∷ (ty (pointee (St.the-row .written)), l₁) ∷ (ty (sliceTy (tyRef (named 0) mut (pointee (T.the-row .written)))), l₂) ∷ (ty (sliceTy (tyRef (named 1) mut (tyInt w8))), l₃) ∷ (ty (sliceTy (tyRef (named 2) mut (tyInt w8))), l₄) ∷ (ty (tyInt w32), l₅) ∷ (ty (tyInt w32), l₆) ∷ (ty (tyInt w32), l₇) ∷ (ty (tyArray (tyInt w32) 32), l₈) ∷ (ty (tyInt w64), l₉) ∷ (ty (tyInt w64), l₁₀) ∷ (ty (tyArray (pointee (T.the-row .written)) 4), l₁₁) ∷ (ty (pointee (R.the-row .written)), l₁₂) ∷ (ty (tyInt w64), l₁₃) ∷ (ty (tyBool), l₁₄) ∷ (ty (tyRef erased imm (pointee (T.the-row .written))), l₁₅) ∷ (ty (sliceTy (tyRef erased imm (pointee (T.the-row .written)))), l₁₆) ∷ (ty (tyRef erased imm (pointee (T.the-row .written))), l₁₇) ∷ (ty (sliceTy (tyRef erased imm (pointee (T.the-row .written)))), l₁₈) ∷ (ty (tyRef erased imm (pointee (T.the-row .written))), l₁₉) ∷ (ty (sliceTy (tyRef erased imm (pointee (T.the-row .written)))), l₂₀) ∷ (ty (tyRef erased mut (tyInt w8)), l₂₁) ∷ (ty (sliceTy (tyRef erased mut (tyInt w8))), l₂₂) ∷ (ty (tyRef erased mut (tyInt w8)), l₂₃) ∷ (ty (sliceTy (tyRef erased mut (tyInt w8))), l₂₄) ∷ (ty (tyUnit), l₂₅) ∷ (ty (tyRef erased mut (pointee (T.the-row .written))), l₂₆) ∷ (ty (sliceTy (tyRef erased mut (pointee (T.the-row .written)))), l₂₇) ∷ (ty (tyArray (pointee (T.the-row .written)) 4), l₂₈) ∷ []
 
     walk : ent 𝓤 (onEntry 𝓤 H A call.signature κs (q₀, (q₁, (q₂, tt))) arg at) (WpFn 𝓤 H C Λ code.function (stateVal s ∷ v-ys ∷ v-ps ∷ v-qs ∷ vint w32 injected ∷ vint w32 error ∷ vint w32 detector ∷ []) Post)
     walk =
@@ -270,23 +270,23 @@ module _ {M : Type 1} (𝓤 : URA M) (H : Heap 𝓤) (A : Atoms 𝓤) (W : Given
         assigns ! (addr ! (from ! (fld ! refl (hop ! (look-in ! 56 (sub ! 0 refl (whole !))) (stop !))))) (from ! (stop !)) (init ! 30 refl (tt, tt)) $
         assigns ! (agg ! (and-then ! (load ! (from ! (stop !)) (look ! 30 refl)) (and-then ! (load ! (from ! (fld ! refl (stop !))) (look-in ! 56 (sub ! 1 refl (whole !)))) (no-more !)))) (from ! (stop !)) (init ! 28 refl (tt, (tt, (record { fits = g-ys .0 }, tt)))) $
         move ! (0 ∷ []) $ split ! $ move ! (4 ∷ 0 ∷ []) $ lends-mut ys ! tt (λ ν δ.
-        looks-one ys ! fm (length ys ≡ 32) n32 St.the-row (state-makes 𝓤 H A) s (stateVal s) g-s u64 (λ (k : ℕ). k ≡ scanned s ys) scan.ended (ν ∷ [], tt) (lentAt b₀ o₀ δ ys, (s, tt)) (known-scan (((ν ∷ [], tt), (fullShare, tt), tt, (lentAt b₀ o₀ δ ys, (s, tt)), (v-ys ∷ [], (stateVal s ∷ [], tt))), tt)) (and-then ! (load ! (from ! (stop !)) (look ! 29 refl)) (and-then ! (load ! (from ! (stop !)) (look ! 59 refl)) (no-more !))) (λ v₁ key e₁ is₁.
+        looks-none ys ! fm (length ys ≡ 32) n32 Ids (λ (l : List ℕ). l ≡ map (λ (z : Slot). z .id) ys) ids.ended (ν ∷ [], tt) (lentAt b₀ o₀ δ ys, tt) (known-ids (((ν ∷ [], tt), (fullShare, tt), tt, (lentAt b₀ o₀ δ ys, tt), (v-ys ∷ [], tt)), tt)) (and-then ! (load ! (from ! (stop !)) (look ! 29 refl)) (no-more !)) (λ v₄ n₄ e₄ is₄.
         mut-back ys ! tt g-ys $
-        land ! (from ! (stop !)) (init ! 45 refl (word-typed W key v₁ is₁)) $
-        calls-one ! fm u64 (uint-makes 𝓤 H A W w64) key v₁ is₁ usize (λ (i : ℕ). (i ≡ winnerBlock key) × (i + 4 ≤ 32)) place.ended tt (key, tt) (known-place ((tt, tt, tt, (key, tt), (v₁ ∷ [], tt)), tt)) (and-then ! (load ! (from ! (stop !)) (look ! 46 refl)) (no-more !)) (λ v₂ at₂ e₂ is₂.
-        land ! (from ! (stop !)) (init ! 43 refl (word-typed W at₂ v₂ is₂)) $
+        land ! (from ! (stop !)) (init ! 45 refl (ids-typed W n₄ v₄ is₄)) $
         assigns ! (addr ! (from ! (fld ! refl (hop ! (look-in ! 57 (sub ! 0 refl (whole !))) (stop !))))) (from ! (stop !)) (init ! 27 refl (tt, tt)) $
         assigns ! (agg ! (and-then ! (load ! (from ! (stop !)) (look ! 27 refl)) (and-then ! (load ! (from ! (fld ! refl (stop !))) (look-in ! 57 (sub ! 1 refl (whole !)))) (no-more !)))) (from ! (stop !)) (init ! 25 refl (tt, (tt, (record { fits = g-ys .0 }, tt)))) $
-        let within : at₂ + 4 ≤ length ys = omega (arith, e₂ .1, n32) in move ! (0 ∷ 1 ∷ []) $ lends-mut ys ! tt (λ ν δ.
-        looks-one ys ! fm (at₂ + 4 ≤ length ys) within usize (uint-makes 𝓤 H A W w64) at₂ v₂ is₂ Block (λ (l : List Slot). l ≡ blockAt ys at₂) four.ended (ν ∷ [], tt) (lentAt b₀ o₀ δ ys, (at₂, tt)) (known-four (((ν ∷ [], tt), (fullShare, tt), tt, (lentAt b₀ o₀ δ ys, (at₂, tt)), (v-ys ∷ [], (v₂ ∷ [], tt))), tt)) (and-then ! (load ! (from ! (stop !)) (look ! 25 refl)) (and-then ! (load ! (from ! (stop !)) (look ! 43 refl)) (no-more !))) (λ v₃ b₃′ e₃ is₃.
+        move ! (0 ∷ 1 ∷ []) $ lends-mut ys ! tt (λ ν δ.
+        looks-one ys ! fm (length ys ≡ 32) n32 St.the-row (state-makes 𝓤 H A) s (stateVal s) g-s u64 (λ (k : ℕ). k ≡ scanned s ys) scan.ended (ν ∷ [], tt) (lentAt b₀ o₀ δ ys, (s, tt)) (known-scan (((ν ∷ [], tt), (fullShare, tt), tt, (lentAt b₀ o₀ δ ys, (s, tt)), (v-ys ∷ [], (stateVal s ∷ [], tt))), tt)) (and-then ! (load ! (from ! (stop !)) (look ! 25 refl)) (and-then ! (load ! (from ! (stop !)) (look ! 59 refl)) (no-more !))) (λ v₁ key e₁ is₁.
         mut-back ys ! tt g-ys $
-        land ! (from ! (stop !)) (init ! 41 refl (typed-block W b₃′ v₃ is₃)) $
+        land ! (from ! (stop !)) (init ! 43 refl (word-typed W key v₁ is₁)) $
+        calls-one ! fm u64 (uint-makes 𝓤 H A W w64) key v₁ is₁ usize (λ (i : ℕ). (i ≡ winnerBlock key) × (i + 4 ≤ 32)) place.ended tt (key, tt) (known-place ((tt, tt, tt, (key, tt), (v₁ ∷ [], tt)), tt)) (and-then ! (load ! (from ! (stop !)) (look ! 44 refl)) (no-more !)) (λ v₂ at₂ e₂ is₂.
+        land ! (from ! (stop !)) (init ! 41 refl (word-typed W at₂ v₂ is₂)) $
         assigns ! (addr ! (from ! (fld ! refl (hop ! (look-in ! 57 (sub ! 0 refl (whole !))) (stop !))))) (from ! (stop !)) (init ! 23 refl (tt, tt)) $
         assigns ! (agg ! (and-then ! (load ! (from ! (stop !)) (look ! 23 refl)) (and-then ! (load ! (from ! (fld ! refl (stop !))) (look-in ! 57 (sub ! 1 refl (whole !)))) (no-more !)))) (from ! (stop !)) (init ! 21 refl (tt, (tt, (record { fits = g-ys .0 }, tt)))) $
-        move ! (0 ∷ 1 ∷ []) $ lends-mut ys ! tt (λ ν δ.
-        looks-none ys ! fm (length ys ≡ 32) n32 Ids (λ (l : List ℕ). l ≡ map (λ (z : Slot). z .id) ys) ids.ended (ν ∷ [], tt) (lentAt b₀ o₀ δ ys, tt) (known-ids (((ν ∷ [], tt), (fullShare, tt), tt, (lentAt b₀ o₀ δ ys, tt), (v-ys ∷ [], tt)), tt)) (and-then ! (load ! (from ! (stop !)) (look ! 21 refl)) (no-more !)) (λ v₄ n₄ e₄ is₄.
+        let within : at₂ + 4 ≤ length ys = omega (arith, e₂ .1, n32) in move ! (0 ∷ 1 ∷ []) $ lends-mut ys ! tt (λ ν δ.
+        looks-one ys ! fm (at₂ + 4 ≤ length ys) within usize (uint-makes 𝓤 H A W w64) at₂ v₂ is₂ Block (λ (l : List Slot). l ≡ blockAt ys at₂) four.ended (ν ∷ [], tt) (lentAt b₀ o₀ δ ys, (at₂, tt)) (known-four (((ν ∷ [], tt), (fullShare, tt), tt, (lentAt b₀ o₀ δ ys, (at₂, tt)), (v-ys ∷ [], (v₂ ∷ [], tt))), tt)) (and-then ! (load ! (from ! (stop !)) (look ! 21 refl)) (and-then ! (load ! (from ! (stop !)) (look ! 41 refl)) (no-more !))) (λ v₃ b₃′ e₃ is₃.
         mut-back ys ! tt g-ys $
-        land ! (from ! (stop !)) (init ! 39 refl (ids-typed W n₄ v₄ is₄)) $
+        land ! (from ! (stop !)) (init ! 39 refl (typed-block W b₃′ v₃ is₃)) $
         let h : Taken s key b₃′ n₄ ys = record { scan = record { slots = n32; key-is = sym e₁ }; block = ap (blockAt ys) (sym (e₂ .0)) ∙ sym e₃; named = sym e₄ } in
         assigns ! (addr ! (from ! (fld ! refl (hop ! (look-in ! 55 (sub ! 0 refl (whole !))) (stop !))))) (from ! (stop !)) (init ! 19 refl (tt, tt)) $
         assigns ! (agg ! (and-then ! (load ! (from ! (stop !)) (look ! 19 refl)) (and-then ! (load ! (from ! (fld ! refl (stop !))) (look-in ! 55 (sub ! 1 refl (whole !)))) (no-more !)))) (from ! (stop !)) (init ! 17 refl (tt, (tt, (record { fits = g-ps .0 }, tt)))) $
@@ -294,7 +294,7 @@ module _ {M : Type 1} (𝓤 : URA M) (H : Heap 𝓤) (A : Atoms 𝓤) (W : Given
         assigns ! (agg ! (and-then ! (load ! (from ! (stop !)) (look ! 15 refl)) (and-then ! (load ! (from ! (fld ! refl (stop !))) (look-in ! 53 (sub ! 1 refl (whole !)))) (no-more !)))) (from ! (stop !)) (init ! 13 refl (tt, (tt, (record { fits = g-qs .0 }, tt)))) $
         move ! (2 ∷ 4 ∷ 3 ∷ []) $
         use3 W (raw (Main 𝓤 H A mem run .pre (to-main key v₁ b₃′ v₃ n₄ v₄))) (goes-main key v₁ is₁ b₃′ v₃ is₃ n₄ v₄ is₄ (ys, h)) $
-        calls-at ! fm (Main 𝓤 H A mem run) known-main (to-main key v₁ b₃′ v₃ n₄ v₄) (and-then ! (load ! (from ! (stop !)) (look ! 57 refl)) (and-then ! (load ! (from ! (stop !)) (look ! 43 refl)) (and-then ! (load ! (from ! (stop !)) (look ! 39 refl)) (and-then ! (load ! (from ! (stop !)) (look ! 37 refl)) (and-then ! (load ! (from ! (stop !)) (look ! 15 refl)) (and-then ! (load ! (from ! (stop !)) (look ! 11 refl)) (and-then ! (load ! (from ! (stop !)) (look ! 49 refl)) (and-then ! (load ! (from ! (stop !)) (look ! 47 refl)) (and-then ! (load ! (from ! (stop !)) (look ! 45 refl)) (no-more !)))))))))) (λ v₅.
+        calls-at ! fm (Main 𝓤 H A mem run) known-main (to-main key v₁ b₃′ v₃ n₄ v₄) (and-then ! (load ! (from ! (stop !)) (look ! 57 refl)) (and-then ! (load ! (from ! (stop !)) (look ! 41 refl)) (and-then ! (load ! (from ! (stop !)) (look ! 37 refl)) (and-then ! (load ! (from ! (stop !)) (look ! 43 refl)) (and-then ! (load ! (from ! (stop !)) (look ! 15 refl)) (and-then ! (load ! (from ! (stop !)) (look ! 11 refl)) (and-then ! (load ! (from ! (stop !)) (look ! 49 refl)) (and-then ! (load ! (from ! (stop !)) (look ! 47 refl)) (and-then ! (load ! (from ! (stop !)) (look ! 45 refl)) (no-more !)))))))))) (λ v₅.
         use1 W (later (some (λ (c : Change). ((‵ (flft κ₁ q₁) ⊛ ‵ (flft κ₂ q₂) ⊛ ‵ ftrue) ⊛ ‵ (R.the-row .own c (v₅ ∷ []))) ⊛ raw (ensured 𝓤 H A main.ended (main.clauses 𝓤 H A mem run) κs′ (main-args key b₃′ n₄) tt c)))) (id⊢ 𝓤 _) $ await ! tt $ pick ! (λ c.
         split ! $ move ! (1 ∷ []) $
         use1 W (some (λ (zs : Lasts main.ended κs′ (main-args key b₃′ n₄)). ‵ (lasts main.ended κs′ (main-args key b₃′ n₄) zs) ⊛ (raw (fact 𝓤 (Ended key b₃′ n₄ c (zs .1 .1 .1 .1 .0) (zs .1 .1 .1 .1 .1 .0))) ⊛ raw (fact 𝓤 (c .at + 4 ≤ 32))))) (id⊢ 𝓤 _) $ pick ! (λ zs.
