@@ -197,27 +197,31 @@ woken-none nodes k j zero = refl
 woken-none nodes k j (suc n) =
     rw (entry-none (getD nodes j noNode) k j, set-getD nodes j noNode) (woken-none nodes k (suc j) n)
 
--- ---- one more Wakeup behind u of them, from the entries with the sender's entry d
+-- ---- one more Wakeup behind u of them
+
+-- the entries after u of them at n nodes, with the sender's entry d
+abbrev standing : List NodeState → ℕ → ℕ → ℕ → NodeState → List NodeState
+standing nodes k u n d = set (wokenFrom nodes k u 0 n) k d
 
 module _ (nodes : List NodeState) (k u n : ℕ) (d : NodeState) (there : k < length nodes) (all : n ≤ length nodes) where
   -- the entry of another node
   other : (i : ℕ) → (i ≡ k → ⊥) → i < n
-      → getD (set (wokenFrom nodes k u 0 n) k d) i noNode ≡ entryWoken (getD nodes i noNode) k u i
+      → getD (standing nodes k u n d) i noNode ≡ entryWoken (getD nodes i noNode) k u i
   other i o h = getD-set-other (wokenFrom nodes k u 0 n) k i d noNode o ∙ woken-there k u nodes 0 n i (omega arith) (omega arith) (omega arith)
 
-  sender : getD (set (wokenFrom nodes k u 0 n) k d) k noNode ≡ d
+  sender : getD (standing nodes k u n d) k noNode ≡ d
   sender = getD-set-same (wokenFrom nodes k u 0 n) k d noNode (rw (woken-length k u nodes 0 n) there)
 
   -- each queue has room for it as it had for u + 1
   pub room-next : d .fill ≤ bytesPerQueue → getD nodes k noNode .fill ≤ bytesPerQueue
-      → wakeupRoom (set (wokenFrom nodes k u 0 n) k d) k 1 0 n ≡ wakeupRoom nodes k (u + 1) 0 n
+      → wakeupRoom (standing nodes k u n d) k 1 0 n ≡ wakeupRoom nodes k (u + 1) 0 n
   room-next f g = room-alike _ nodes k 1 (u + 1) 0 n (λ i l h. go i (omega arith) (eqb i k) refl)
     where
       fits : (x : NodeState) (v : ℕ) → x .fill ≤ bytesPerQueue → leb (fillWoken x k v k) bytesPerQueue ≡ true
       fits x v q = rw (self-fill x k v) (le-leb _ bytesPerQueue q)
 
       go : (i : ℕ) → i < n → (t : Bool) → eqb i k ≡ t
-          → leb (fillWoken (getD (set (wokenFrom nodes k u 0 n) k d) i noNode) k 1 i) bytesPerQueue
+          → leb (fillWoken (getD (standing nodes k u n d) i noNode) k 1 i) bytesPerQueue
           ≡ leb (fillWoken (getD nodes i noNode) k (u + 1) i) bytesPerQueue
       go i h true e =
           let q : i ≡ k = eqb-true i k e in
@@ -225,53 +229,53 @@ module _ (nodes : List NodeState) (k u n : ℕ) (d : NodeState) (there : k < len
       go i h false e = rw (other i (eqb-false i k e) h, fill-next (getD nodes i noNode) k i u)
 
   -- it is laid where it is behind u of them
-  pub laid-next : (q : List ℕ) → wakeupsLaid (set (wokenFrom nodes k u 0 n) k d) k 0 0 n q ≡ wakeupsLaid nodes k u 0 n q
+  pub laid-next : (q : List ℕ) → wakeupsLaid (standing nodes k u n d) k 0 0 n q ≡ wakeupsLaid nodes k u 0 n q
   laid-next queues = laid-alike _ nodes k 0 u 0 n queues (λ i l h q. go i (omega arith) (eqb i k) refl q)
     where
       go : (i : ℕ) → i < n → (t : Bool) → eqb i k ≡ t → (q : List ℕ)
-          → wakeupLaid (getD (set (wokenFrom nodes k u 0 n) k d) i noNode) k 0 i q ≡ wakeupLaid (getD nodes i noNode) k u i q
+          → wakeupLaid (getD (standing nodes k u n d) i noNode) k 0 i q ≡ wakeupLaid (getD nodes i noNode) k u i q
       go i h true e q = let p : i ≡ k = eqb-true i k e in rw p (self-laid _ k 0 q ∙ sym (self-laid _ k u q))
       go i h false e q = rw (other i (eqb-false i k e) h) (laid-behind (getD nodes i noNode) k u i q)
 
   -- and leaves what u + 1 leave
-  pub woken-next : set (wokenFrom (set (wokenFrom nodes k u 0 n) k d) k 1 0 n) k d ≡ set (wokenFrom nodes k (u + 1) 0 n) k d
+  pub woken-next : set (wokenFrom (standing nodes k u n d) k 1 0 n) k d ≡ standing nodes k (u + 1) n d
   woken-next =
-      ext-getD noNode (set (wokenFrom (set (wokenFrom nodes k u 0 n) k d) k 1 0 n) k d) (set (wokenFrom nodes k (u + 1) 0 n) k d) (sized ∙ sym sized′)
+      ext-getD noNode (set (wokenFrom (standing nodes k u n d) k 1 0 n) k d) (standing nodes k (u + 1) n d) (sized ∙ sym sized′)
       (λ i h. go i (eqb i k) refl)
     where
-      long : length (wokenFrom (set (wokenFrom nodes k u 0 n) k d) k 1 0 n) ≡ length nodes
-      long = woken-length k 1 (set (wokenFrom nodes k u 0 n) k d) 0 n ∙ length-set (wokenFrom nodes k u 0 n) k d ∙ woken-length k u nodes 0 n
+      long : length (wokenFrom (standing nodes k u n d) k 1 0 n) ≡ length nodes
+      long = woken-length k 1 (standing nodes k u n d) 0 n ∙ length-set (wokenFrom nodes k u 0 n) k d ∙ woken-length k u nodes 0 n
 
-      sized : length (set (wokenFrom (set (wokenFrom nodes k u 0 n) k d) k 1 0 n) k d) ≡ length nodes
-      sized = length-set (wokenFrom (set (wokenFrom nodes k u 0 n) k d) k 1 0 n) k d ∙ long
+      sized : length (set (wokenFrom (standing nodes k u n d) k 1 0 n) k d) ≡ length nodes
+      sized = length-set (wokenFrom (standing nodes k u n d) k 1 0 n) k d ∙ long
 
-      sized′ : length (set (wokenFrom nodes k (u + 1) 0 n) k d) ≡ length nodes
+      sized′ : length (standing nodes k (u + 1) n d) ≡ length nodes
       sized′ = length-set (wokenFrom nodes k (u + 1) 0 n) k d ∙ woken-length k (u + 1) nodes 0 n
 
       another : (i : ℕ) → (i ≡ k → ⊥) → (t : Bool) → ltb i n ≡ t
-          → getD (wokenFrom (set (wokenFrom nodes k u 0 n) k d) k 1 0 n) i noNode ≡ getD (wokenFrom nodes k (u + 1) 0 n) i noNode
+          → getD (wokenFrom (standing nodes k u n d) k 1 0 n) i noNode ≡ getD (wokenFrom nodes k (u + 1) 0 n) i noNode
       another i o true e =
           let h : i < n = ltb-true i n e in
-          let l : length (set (wokenFrom nodes k u 0 n) k d) ≡ length nodes = length-set (wokenFrom nodes k u 0 n) k d ∙ woken-length k u nodes 0 n in
-          woken-there k 1 (set (wokenFrom nodes k u 0 n) k d) 0 n i (omega arith) (omega arith) (omega arith)
+          let l : length (standing nodes k u n d) ≡ length nodes = length-set (wokenFrom nodes k u 0 n) k d ∙ woken-length k u nodes 0 n in
+          woken-there k 1 (standing nodes k u n d) 0 n i (omega arith) (omega arith) (omega arith)
           ∙ rw (other i o h, fill-next (getD nodes i noNode) k i u)
           (sym (woken-there k (u + 1) nodes 0 n i (omega arith) (omega arith) (omega arith)))
       another i o false e =
           let h : n ≤ i = ltb-false i n e in
-          woken-behind k 1 (set (wokenFrom nodes k u 0 n) k d) 0 n i (omega arith)
+          woken-behind k 1 (standing nodes k u n d) 0 n i (omega arith)
           ∙ getD-set-other (wokenFrom nodes k u 0 n) k i d noNode o
           ∙ woken-behind k u nodes 0 n i (omega arith)
           ∙ sym (woken-behind k (u + 1) nodes 0 n i (omega arith))
 
       go : (i : ℕ) (t : Bool) → eqb i k ≡ t
-          → getD (set (wokenFrom (set (wokenFrom nodes k u 0 n) k d) k 1 0 n) k d) i noNode ≡ getD (set (wokenFrom nodes k (u + 1) 0 n) k d) i noNode
+          → getD (set (wokenFrom (standing nodes k u n d) k 1 0 n) k d) i noNode ≡ getD (standing nodes k (u + 1) n d) i noNode
       go i true e =
           let q : i ≡ k = eqb-true i k e in
           rw q
-          (getD-set-same (wokenFrom (set (wokenFrom nodes k u 0 n) k d) k 1 0 n) k d noNode (rw long there)
+          (getD-set-same (wokenFrom (standing nodes k u n d) k 1 0 n) k d noNode (rw long there)
           ∙ sym (getD-set-same (wokenFrom nodes k (u + 1) 0 n) k d noNode (rw (woken-length k (u + 1) nodes 0 n) there)))
       go i false e =
           let o = eqb-false i k e in
-          getD-set-other (wokenFrom (set (wokenFrom nodes k u 0 n) k d) k 1 0 n) k i d noNode o
+          getD-set-other (wokenFrom (standing nodes k u n d) k 1 0 n) k i d noNode o
           ∙ another i o (ltb i n) refl
           ∙ sym (getD-set-other (wokenFrom nodes k (u + 1) 0 n) k i d noNode o)
