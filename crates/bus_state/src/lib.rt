@@ -1,6 +1,6 @@
 // The state of the bus, which goes in and comes back by value, beside the lent memory: slots, payload bytes, queue bytes.
 ghost use mathlib.Core.Path.{_≡_};
-ghost use Prim.Native.Nat.{_-_, _≤_, _<_};
+ghost use Prim.Native.Nat.{_<_};
 ghost use Rattle.operation.specs.Rules.{oneOf, behaviours};
 ghost use lib.ListN.{set};
 ghost use Rattle.bus_state.specs.Memory.{nodeState};

@@ -1,17 +1,17 @@
 -- What the pass comes to: the key of the winner where state and slots are valid, and 0 where not.
 -- Assumes nothing.
-use mathlib.Core.Path.{_≡_, refl, sym, ap, _∙_}
+use mathlib.Core.Path.{_≡_, refl, sym, _∙_}
 use mathlib.Core.Bool.{Bool, true, false, cond, _&&_}
 use mathlib.Core.List.{List}
 use Prim.Native.Nat.{ℕ, zero, suc, _+_, _*_, _≤_, _<_}
 use native.Mathlib.Nat.{add-zero}
 use native.Mathlib.Omega.{arith}
-use lib.Dec.{leb, ltb}
+use lib.Dec.{leb}
 use lib.ListN.{getD}
 use borrow.Author.Tests.{leb-true, le-leb, le-ltb}
 use Rattle.operation.proofs.Tests.{false-is-true, both}
 use Rattle.plain_bus.specs.Order.{rank}
-use Rattle.slots.specs.Slots.{freeSlot, contentOf, heldIn}
+use Rattle.slots.specs.Slots.{freeSlot}
 use Rattle.slots.specs.declared.Slot.{Slot}
 use Rattle.bus_state.specs.Memory.{nodeState}
 use Rattle.bus_state.specs.Valid.{validSlots, validEntry, validNode, validNodes, validState, slotFollows}
@@ -21,8 +21,8 @@ use Rattle.bus_state.proofs.Tests.{few}
 use Rattle.scan.specs.declared.Run.{Run}
 use Rattle.scan.specs.declared.Winner.{Winner}
 use Rattle.scan.specs.declared.Winner.the-variants.{Nobody, First}
-use Rattle.scan.specs.Winner.{heldAt, better, bestOf, entryOf, bestFrom, bestIn, Small}
-use Rattle.scan.specs.Scan.{frameKey, noFrame, keyOf, lowerOf, stepOf, stepsOf, begun, framesKey, entryKey, frameCount, nodesKey, attachedCount, firstKey, scanned}
+use Rattle.scan.specs.Winner.{heldAt, better, bestOf, bestFrom, bestIn, Small}
+use Rattle.scan.specs.Scan.{frameKey, noFrame, keyOf, lowerOf, stepOf, stepsOf, begun, framesKey, entryKey, frameCount, nodesKey, scanned}
 use Rattle.scan.proofs.Keys.{key-better, better-small}
 use Rattle.scan.proofs.Frames.{rank-is}
 use Rattle.scan.proofs.Following.{slotsFollow, lastRound, steps-low, following-valid}

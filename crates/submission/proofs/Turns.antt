@@ -15,7 +15,6 @@ use Rattle.slots.specs.declared.Slot.{Slot}
 use Rattle.plain_bus.specs.Submit.{formatError}
 use Rattle.plain_bus.specs.Calls.{maxSubmit}
 use Rattle.bus_state.specs.Memory.{Memory, held, slotsPerNode, bytesPerSlot, bytesPerQueue, payloadBytes, queueBytes, nodeState}
-use Rattle.bus_state.specs.Entries.{withEntry}
 use Rattle.bus_state.specs.declared.State.{State}
 use Rattle.bus_state.specs.declared.NodeState.{NodeState}
 use Rattle.submission.specs.Effects.{Taken}
@@ -26,7 +25,7 @@ use Rattle.submission.specs.declared.Step.{Step}
 use Rattle.submission.specs.declared.Verdict.{Verdict}
 use Rattle.submission.specs.declared.Verdict.the-variants.{Goes, QueueFull}
 use Rattle.submission.proofs.Entries.{entry-there}
-use Rattle.submission.proofs.Stands.{stand, fill-after, Begun, Stood, stand-first, stand-there, stand-room, stand-laid, stand-next}
+use Rattle.submission.proofs.Stands.{stand, fill-after, Stood, stand-first, stand-there, stand-room, stand-laid, stand-next}
 use Rattle.submission.proofs.Checks.{transmit-few, answer-fits, wake-room, entry-can}
 use Rattle.submission.proofs.Carries.{quiet, after-quiet, after-answer, after-wake, after-frame}
 use Rattle.submission.proofs.Walks.{bytes-length, check-first, wakeup-fails, wakeup-goes, entry-fails, entry-goes, step-check, step-memory}

@@ -1,7 +1,7 @@
 -- Laws of Wakeups on the entries of all nodes: one node at a time, then what they leave at each node.
 -- Assumes nothing.
 use mathlib.Core.Path.{_≡_, refl, sym, ap, _∙_}
-use mathlib.Core.Bool.{Bool, true, false, cond, _&&_, _||_}
+use mathlib.Core.Bool.{Bool, true, false, cond, _&&_}
 use mathlib.Core.List.{List}
 use Prim.Native.Nat.{ℕ, zero, suc, _+_, _*_, _-_, _≤_, _<_}
 use native.Mathlib.Omega.{arith}
@@ -10,7 +10,6 @@ use lib.ListN.{length, getD, set, length-set}
 use lib.Seq.{getD-set-same, getD-set-other, set-getD, ext-getD}
 use borrow.Author.Tests.{leb-true, le-leb, lt-leb, eqb-true, eqb-false, ltb-true, ltb-false, eq-eqb}
 use Rattle.operation.proofs.Tests.{both}
-use Rattle.plain_bus.specs.Held.{busOff}
 use Rattle.bus_state.specs.Memory.{bytesPerQueue, noNode}
 use Rattle.bus_state.specs.declared.NodeState.{NodeState}
 use Rattle.submission.specs.Counting.{unreached, wakeupLength, fillWoken, entryWoken, wakeupRoom, wokenFrom}

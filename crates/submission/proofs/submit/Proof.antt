@@ -3,7 +3,7 @@ use Prim.Native.Nat.{_*_}
 use Rattle.submission.proofs.Submits.{first-slot-of, laid-again, not-attached, too-long, four-pending, queue-full, taken}
 use borrow.Author.Needs.{needs}
 use denote.Ref.{now}
-use mathlib.Core.Path.{_≡_, sym, _∙_}
+use mathlib.Core.Path.{sym, _∙_}
 use native.Mathlib.Omega.{arith}
 use Rattle.submission.proofs.submit.Statement.{statement}
 use Rattle.submission.proofs.submit.Tie as tie

@@ -4,7 +4,6 @@ use Rattle.submission.proofs.Wakes.{room-here, laid-step, laid-end}
 use Rattle.submission.specs.Carrying.{wakeupsLaid}
 use Rattle.submission.specs.Counting.{wakeupRoom}
 use borrow.Author.Needs.{needs}
-use denote.Ref.{now}
 use lib.ListN.{length}
 use mathlib.Core.Bool.{true}
 use mathlib.Core.Path.{_≡_, refl, sym, _∙_}

@@ -2,7 +2,6 @@
 use Rattle.submission.specs.Carrying.{wakeupLaid}
 use Rattle.submission.specs.Counting.{wakeupLength}
 use borrow.Author.Needs.{needs}
-use mathlib.Core.Path.{_≡_, refl, sym, _∙_}
 use native.Mathlib.Omega.{arith}
 use Rattle.submission.proofs.wake_at.Statement.{statement}
 use Rattle.submission.proofs.wake_at.Tie as tie

@@ -1,10 +1,9 @@
 -- The loop's invariant: the queues from j on decide as all do.
-use Prim.Native.Nat.{_≤_, _-_, _+_}
+use Prim.Native.Nat.{_≤_, _-_}
 use Rattle.submission.proofs.Wakes.{room-end, room-bad, room-good}
 use Rattle.submission.specs.Counting.{wakeupRoom}
 use borrow.Author.Needs.{needs}
-use lib.ListN.{length}
-use mathlib.Core.Path.{_≡_, refl, sym, _∙_}
+use mathlib.Core.Path.{_≡_, sym, _∙_}
 use native.Mathlib.Numerals.{add-one}
 use native.Mathlib.Omega.{arith}
 use Rattle.submission.proofs.wakeups_have_room.Statement.{statement}

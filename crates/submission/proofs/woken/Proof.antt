@@ -1,11 +1,11 @@
 -- The loop's invariant: the nodes from j on, from the present entries, give what all give from the first.
-use Prim.Native.Nat.{_≤_, _-_, _+_}
+use Prim.Native.Nat.{_≤_, _-_}
 use Rattle.submission.proofs.Wakes.{room-here, room-past, woken-step, woken-end}
 use Rattle.submission.specs.Counting.{wakeupRoom, wokenFrom}
 use borrow.Author.Needs.{needs}
 use lib.ListN.{length, length-set, length-map}
 use mathlib.Core.Bool.{true}
-use mathlib.Core.Path.{_≡_, refl, sym, _∙_}
+use mathlib.Core.Path.{_≡_, sym, _∙_}
 use native.Mathlib.Numerals.{add-one}
 use native.Mathlib.Omega.{arith}
 use Rattle.submission.proofs.woken.Statement.{statement}
