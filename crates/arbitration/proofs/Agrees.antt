@@ -14,7 +14,7 @@ use Rattle.operation.specs.Kinds.{idOf}
 use Rattle.operation.specs.declared.Operation.{Operation}
 use Rattle.slots.specs.declared.Slot.{Slot}
 use Rattle.plain_bus.specs.Held as plain
-use Rattle.plain_bus.specs.Round.{newsFor, without, lostNotices, drops, told, owed}
+use Rattle.plain_bus.specs.Round.{newsFor, without, lostNotices, told, owed}
 use Rattle.plain_bus.specs.Round as plainRound
 use Rattle.buffers.proofs.Offsets.{length-part}
 use Rattle.bus_state.specs.Memory.{Memory, nodeState, held, dataAtSlot, frameAt, framesFrom, nodeView}
@@ -75,7 +75,7 @@ notices-view : (m : Memory) (ids : List ℕ) (j owner position : ℕ) → positi
     → ((q : ℕ) → q < entryAt m j .pending → getD ids (4 * j + q) 0 ≡ idOf (heldAt (m .slots) (4 * j + q)))
     → lostNotices (told (pendingAt m owner position) j (nodeView m j))
     ≡ noticesBut ids (4 * owner + position) (4 * j) (discarded (entryAt m j))
-unfolding told drops plainRound.losers nodeView noticesBut lostNotices
+unfolding told plainRound.losers nodeView noticesBut lostNotices
 notices-view m ids j owner position h few o named = go (discards (entryAt m j)) (eqb j owner) refl
   where
     frames : List plain.Frame

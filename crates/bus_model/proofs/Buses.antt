@@ -8,7 +8,7 @@ use lib.ListN.{length, getD, length-set}
 use lib.Seq.{ext-getD, getD-set-same, getD-set-other}
 use Rattle.plain_bus.specs.Held.{Node, Bus, newNode, nodeAt, withNode, withNodes, eachNode}
 use Rattle.plain_bus.proofs.Nodes.{length-each, each-at}
-use Rattle.plain_bus.proofs.Kept.{by-number}
+use Rattle.plain_bus.proofs.Preserved.{by-number}
 use Rattle.bus_state.specs.Memory.{Memory, nodeView, nodesFrom, view}
 
 length-nodes : (m : Memory) (j n : ℕ) → length (nodesFrom m j n) ≡ n

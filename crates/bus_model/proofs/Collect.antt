@@ -18,7 +18,7 @@ use Rattle.bus_state.specs.Memory.{Memory, nodeView, view}
 use Rattle.bus_state.specs.Valid.{validState}
 use Rattle.bus_model.specs.Primitives.{entryAt, emptyQueue}
 use Rattle.bus_model.specs.Calls.{replies, refusing, queueAt, collection, collectIn}
-use Rattle.bus_model.specs.Refines.{Typed, Refines}
+use Rattle.bus_model.specs.Refines.{TypedMemory, Refines}
 use Rattle.bus_model.proofs.Views.{entryView}
 use Rattle.bus_model.proofs.Buses.{view-length, view-at, view-round}
 use Rattle.bus_model.proofs.Validity.{Good, valid-good, good-node, good-number, queue-length}
@@ -67,7 +67,7 @@ module _ (m : Memory) (g : Good m) (k room : ℕ) where
           rw (view-at m k h, queue-length m g k h) (fits h (ltb room (entryAt m k .fill)))
 
 -- collect, for every valid memory
-pub collect-refines : (m : Memory) (k room : ℕ) → Typed m → validState (m .state) (m .slots) ≡ true
+pub collect-refines : (m : Memory) (k room : ℕ) → TypedMemory m → validState (m .state) (m .slots) ≡ true
     → Refines (collectIn m k room) (collect (view m) k room)
 unfolding collectIn
 collect-refines m k room t v =

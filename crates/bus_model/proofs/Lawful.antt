@@ -9,7 +9,7 @@ use mathlib.Core.List.{List, [], _∷_, append-nil}
 use lib.Dec.{leb, eqb, lit≤}
 use lib.ListN.{length}
 use borrow.Author.Tests.{leb-true, eqb-true}
-use Rattle.operation.specs.Format.{headLength, dataLength, lengthOf, encode, Typed}
+use Rattle.operation.specs.Format.{headLength, dataLength, lengthOf, encode, TypedOperation}
 use Rattle.operation.specs.Rules.{oneOf, maxId, fdLength, rules, legal}
 use Rattle.operation.specs.declared.Operation.{Operation}
 use Rattle.operation.specs.declared.Operation.the-variants.{FormatError, CanTransmit, FdTransmit, XlTransmit, Confirm, ArbitrationLost, BusError, Configuration, Status, Wakeup}
@@ -72,7 +72,7 @@ transmit-short Wakeup t l = false-is-true t
 pub record Lawful (op : Operation) : Type 0 where
   pub transmit : isTransmit op ≡ true
   pub lawful : legal op ≡ true
-  pub typed : Typed op
+  pub typed : TypedOperation op
   pub short : dataLength op ≤ 2_048
 
 can-lawful : (id ide rtr dl : ℕ) → legal (CanTransmit id ide rtr dl) ≡ true → Lawful (CanTransmit id ide rtr dl)

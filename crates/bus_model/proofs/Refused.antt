@@ -34,39 +34,39 @@ module _ (m : Memory) (r : Result) where
 
 -- ---- nothing is changed
 
-abbrev pub Kept : Memory → Result → Type 0
-Kept m r = replyDone (r .reply) ≡ false → r .memory ≡ m
+abbrev pub SameMemory : Memory → Result → Type 0
+SameMemory m r = replyDone (r .reply) ≡ false → r .memory ≡ m
 
 -- what is done is not refused
 done-kept : {P : Type 0} → true ≡ false → P
 done-kept e = let z : _≡_ {A = ℕ} 0 1 = cc in absurd (omega arith)
 
-checked-kept : (m : Memory) (r : Result) → Kept m r → Kept m (checked m r)
+checked-kept : (m : Memory) (r : Result) → SameMemory m r → SameMemory m (checked m r)
 unfolding checked
 checked-kept m r k = go (lentWell m) (validState (m .state) (m .slots))
   where
-    go : (a b : Bool) → Kept m (cond (not a) (record { reply = wrongMemory; memory = m }) (cond (not b) (refusing invalid m) r))
+    go : (a b : Bool) → SameMemory m (cond (not a) (record { reply = wrongMemory; memory = m }) (cond (not b) (refusing invalid m) r))
     go false b = λ e. refl
     go true false = λ e. refl
     go true true = k
 
-pub submit-kept : (m : Memory) (k : ℕ) (buffer : List ℕ) → Kept m (submitIn m k buffer)
+pub submit-kept : (m : Memory) (k : ℕ) (buffer : List ℕ) → SameMemory m (submitIn m k buffer)
 unfolding submitIn submitted
 submit-kept m k buffer =
     checked-kept m (submitted m k buffer) (go (attachedIn m k) (ltb maxSubmit (length buffer)) (itemsIn k (itemsOf buffer) (goesOn m)))
   where
-    go : (a b : Bool) (p : Progress) → Kept m (cond (not a) (refusing notAttached m) (cond b (refusing bufferTooLong m) (takenIn m p)))
+    go : (a b : Bool) (p : Progress) → SameMemory m (cond (not a) (refusing notAttached m) (cond b (refusing bufferTooLong m) (takenIn m p)))
     go false b p = λ e. refl
     go true true p = λ e. refl
     go true false (goesOn after) = λ e. done-kept e
     go true false (stops r) = λ e. refl
 
-pub round-kept : (m : Memory) (e : Injection) → Kept m (roundIn m e)
+pub round-kept : (m : Memory) (e : Injection) → SameMemory m (roundIn m e)
 unfolding roundIn rounded arbitrateIn
 round-kept m e = checked-kept m (rounded m e) (go (wrongInjectionIn m e) (winnerIn m))
   where
     won : (w : Entry) (age : ℕ) (a b : Bool)
-        → Kept m
+        → SameMemory m
         (cond (not a) (refusing queueFull m)
         (cond b (refusing roundsUsedUp m)
         (replies (carried (w .owner) (winnerId w) (isErrored e) age) (afterRoundIn e w m))))
@@ -74,17 +74,17 @@ round-kept m e = checked-kept m (rounded m e) (go (wrongInjectionIn m e) (winner
     won w age true true = λ e. refl
     won w age true false = λ e. done-kept e
 
-    go : (a : Bool) (x : Winner) → Kept m (cond a (refusing badInjection m) (arbitrateIn m e x))
+    go : (a : Bool) (x : Winner) → SameMemory m (cond a (refusing badInjection m) (arbitrateIn m e x))
     go true x = λ e. refl
     go false nobody = λ e. refl
     go false (wins w) = won w _ (roomForEach (owedAt e w m) m 0 (m .state .count)) (leb lastRound (m .state .round))
 
-pub collect-kept : (m : Memory) (k room : ℕ) → Kept m (collectIn m k room)
+pub collect-kept : (m : Memory) (k room : ℕ) → SameMemory m (collectIn m k room)
 unfolding collectIn collection
 collect-kept m k room = checked-kept m (collection m k room) (go (attachedIn m k) (ltb room (entryAt m k .fill)))
   where
     go : (a b : Bool)
-        → Kept m
+        → SameMemory m
         (cond (not a) (refusing notAttached m) (cond b (refusing roomTooSmall m) (replies (collected (queueAt m k)) (emptyQueue m k))))
     go false b = λ e. refl
     go true true = λ e. refl

@@ -15,14 +15,14 @@ use Rattle.plain_bus.specs.Session.{round}
 use Rattle.plain_bus.specs.Valid.{ValidNode, Valid}
 use Rattle.plain_bus.proofs.Nodes.{length-each, each-at}
 use Rattle.plain_bus.proofs.Winner.{winner-pending}
-use Rattle.plain_bus.proofs.Kept.{valid-kept}
+use Rattle.plain_bus.proofs.Preserved.{valid-kept}
 use Rattle.plain_bus.proofs.Rounds.{round-done}
 use Rattle.bus_state.specs.Memory.{Memory, nodeView, view}
 use Rattle.bus_state.specs.Valid.{validState}
 use Rattle.bus_model.specs.Primitives.{entryAt, setRound, inTurn}
 use Rattle.bus_model.specs.Round.{owedAt, settleAt, afterRoundIn}
 use Rattle.bus_model.specs.Calls.{replies, refusing, arbitrateIn, rounded, roundIn}
-use Rattle.bus_model.specs.Refines.{Sized, Typed, Refines}
+use Rattle.bus_model.specs.Refines.{Sized, TypedMemory, Refines}
 use Rattle.bus_model.proofs.Writes.{Same, same-trans}
 use Rattle.bus_model.proofs.Views.{same-fits, same-view, frames-moved, length-frames}
 use Rattle.bus_model.proofs.Buses.{view-length, view-at, view-round, view-is}
@@ -149,7 +149,7 @@ rounded-refines m e g =
     go false l (wins w) q = won-refines m g w q e l
 
 -- a round, for every valid memory
-pub round-refines : (m : Memory) (e : Injection) → Typed m → validState (m .state) (m .slots) ≡ true
+pub round-refines : (m : Memory) (e : Injection) → TypedMemory m → validState (m .state) (m .slots) ≡ true
     → Refines (roundIn m e) (runRound (view m) e)
 unfolding roundIn
 round-refines m e t v =

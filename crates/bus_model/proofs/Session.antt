@@ -7,13 +7,13 @@ use Rattle.plain_bus.specs.Held.{Bus}
 use Rattle.plain_bus.specs.Session.{Call, submission, round, collection, call, calls}
 use Rattle.bus_state.specs.Memory.{Memory, view}
 use Rattle.bus_state.specs.Valid.{validState}
-use Rattle.bus_model.specs.Refines.{Typed, Refines}
+use Rattle.bus_model.specs.Refines.{TypedMemory, Refines}
 use Rattle.bus_model.specs.Session.{callIn, callsIn, ByteCall, ByteCalls}
 use Rattle.bus_model.proofs.Submit.{submit-refines}
 use Rattle.bus_model.proofs.Round.{round-refines}
 use Rattle.bus_model.proofs.Collect.{collect-refines}
 
-pub call-refines : (m : Memory) (c : Call) → Typed m → validState (m .state) (m .slots) ≡ true → ByteCall c
+pub call-refines : (m : Memory) (c : Call) → TypedMemory m → validState (m .state) (m .slots) ≡ true → ByteCall c
     → Refines (callIn m c) (call (view m) c)
 unfolding callIn call
 call-refines m (submission k buffer) t v u = submit-refines m k buffer t v u
@@ -24,7 +24,7 @@ call-refines m (collection k room) t v u = collect-refines m k room t v
 pub record Follows (m : Memory) (b : Bus) : Type 0 where
   pub bus : view m ≡ b
   pub valid : validState (m .state) (m .slots) ≡ true
-  pub typed : Typed m
+  pub typed : TypedMemory m
 
 pub calls-follow : (cs : List Call) (m : Memory) (b : Bus) → Follows m b → ByteCalls cs → Follows (callsIn cs m) (calls cs b)
 unfolding callsIn calls

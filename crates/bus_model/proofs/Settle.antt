@@ -9,7 +9,7 @@ use lib.Dec.{eqb}
 use lib.ListN.{length}
 use Rattle.plain_bus.specs.Held.{Node, discards, withPending, enqueue}
 use Rattle.plain_bus.specs.Order.{Entry}
-use Rattle.plain_bus.specs.Round.{Injection, noError, injected, newsFor, without, losers, lostNotices, drops, told, stay, owed, settle}
+use Rattle.plain_bus.specs.Round.{Injection, noError, injected, newsFor, without, losers, lostNotices, told, stay, owed, settle}
 use Rattle.bus_state.specs.Memory.{Memory, frameAt, framesFrom, nodeView}
 use Rattle.bus_model.specs.Primitives.{entryAt, dropFrames, removeFrame}
 use Rattle.bus_model.specs.Round.{discardsAt, newsAt, noticesFrom, noticesAt, withoutWinner, owedAt, withoutLosers, settleAt}
@@ -55,7 +55,7 @@ module _ (m : Memory) (s : Sized m) (j : ℕ) (h : j < 8) (f : Fits m j) (t : Ti
 
   -- what the node is owed
   pub owed-view : (e : Injection) → owedAt e w m j ≡ owed e w j (nodeView m j)
-  unfolding owedAt owed told drops lostNotices
+  unfolding owedAt owed told lostNotices
   owed-view e =
       rw (news-view e w m j, notices-view (withoutWinner w m j) j, winner-touched .own)
       (ap (λ (l : List ℕ). newsFor e w j (nodeView m j) ++ l) (go (discards (nodeView m j))))
@@ -66,7 +66,7 @@ module _ (m : Memory) (s : Sized m) (j : ℕ) (h : j < 8) (f : Fits m j) (t : Ti
 
   -- the losers are removed too
   losers-touched : Touched m (withoutLosers (withoutWinner w m j) j) j (withPending (nodeView m j) (stay w j (nodeView m j)))
-  unfolding stay drops
+  unfolding stay
   losers-touched =
       touched-trans winner-touched
       (touched-as (drop-touched (withoutWinner w m j) j (winner-touched .sized) h (winner-touched .tidy))

@@ -12,7 +12,7 @@ use Rattle.slots.specs.Slots.{freeSlot}
 use Rattle.slots.specs.declared.Slot.{Slot}
 use Rattle.plain_bus.specs.Held.{newNode, newBus}
 use Rattle.plain_bus.specs.Calls.{accepted, gives, start}
-use Rattle.plain_bus.proofs.Kept.{start-valid}
+use Rattle.plain_bus.proofs.Preserved.{start-valid}
 use Rattle.buffers.specs.Parts.{part}
 use Rattle.bus_state.specs.Memory.{Memory, noNode, slotAt, framesFrom, nodeView, nodesFrom, view}
 use Rattle.bus_model.specs.Primitives.{entryAt, newEntry, newState, startMemory}

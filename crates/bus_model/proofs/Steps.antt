@@ -10,7 +10,7 @@ use lib.ListN.{length, set, drop, length-append, length-drop}
 use lib.Seq.{take-length}
 use borrow.Author.Tests.{leb-true, leb-false, eqb-true, eqb-false}
 use Rattle.operation.specs.Number.{Bytes}
-use Rattle.operation.specs.Format.{headLength, dataLength, header, encode, Typed}
+use Rattle.operation.specs.Format.{headLength, dataLength, header, encode, TypedOperation}
 use Rattle.operation.specs.Rules.{legal}
 use Rattle.operation.specs.declared.Operation.{Operation}
 use Rattle.operation.specs.declared.Operation.the-variants.{FormatError, CanTransmit, FdTransmit, XlTransmit, Confirm, ArbitrationLost, BusError, Configuration, Status, Wakeup}
@@ -54,7 +54,7 @@ Agrees count (stops r) (fails r′) = r ≡ r′
 -- ---- the bytes of a Transmit
 
 record Parts (op : Operation) (bytes : List ℕ) : Type 0 where
-  typed : Typed op
+  typed : TypedOperation op
   lawful : legal op ≡ true
   same : encode op (drop (headLength op) bytes) ≡ bytes
   size : length (drop (headLength op) bytes) ≡ dataLength op
@@ -71,7 +71,7 @@ parts op bytes u e =
       size = length-drop (headLength op) bytes ∙ omega (arith, f .sized);
     }
 
-typed-slot : (op : Operation) (owner accepted : ℕ) → Typed op → TypedSlot (slotOf op owner accepted)
+typed-slot : (op : Operation) (owner accepted : ℕ) → TypedOperation op → TypedSlot (slotOf op owner accepted)
 unfolding slotOf
 typed-slot (FormatError n) owner accepted t = record { af = omega arith; third = omega arith; fourth = omega arith }
 typed-slot (CanTransmit id ide rtr dl) owner accepted t = record { af = omega arith; third = omega arith; fourth = omega arith }

@@ -13,13 +13,13 @@ use Rattle.decoder.specs.Stream.{Item, bytesOf, itemsOf}
 use Rattle.decoder.proofs.Streams.{unroll}
 use Rattle.plain_bus.specs.Refusal.{Refusal, notAttached, bufferTooLong}
 use Rattle.plain_bus.specs.Submit.{Step, done, fails, takeItem, takeItems}
-use Rattle.plain_bus.specs.Calls.{refused, accepted, refuses, maxSubmit, taken, submit}
+use Rattle.plain_bus.specs.Calls.{refused, accepted, refuses, maxSubmit, takenWhole, submit}
 use Rattle.plain_bus.proofs.Whole.{along, items-nil, ValidItems, items-valid}
 use Rattle.bus_state.specs.Memory.{Memory, view}
 use Rattle.bus_state.specs.Valid.{validState}
 use Rattle.bus_model.specs.Submit.{Progress, goesOn, stops, itemIn, itemsIn}
 use Rattle.bus_model.specs.Calls.{refusing, takenIn, submitted, submitIn}
-use Rattle.bus_model.specs.Refines.{Typed, Refines}
+use Rattle.bus_model.specs.Refines.{TypedMemory, Refines}
 use Rattle.bus_model.proofs.Buses.{view-length}
 use Rattle.bus_model.proofs.Validity.{Good, valid-good}
 use Rattle.bus_model.proofs.Checked.{checked-passes, unchanged, changed}
@@ -58,7 +58,7 @@ items-agree k (i ∷ is) m g h v u =
 -- ---- the call
 
 module _ (m : Memory) (g : Good m) (k : ℕ) (buffer : List ℕ) (u : Bytes buffer) where
-  taken-refines : (p : Progress) (s : Step) → Agrees (m .state .count) p s → Refines (takenIn m p) (taken (view m) s)
+  taken-refines : (p : Progress) (s : Step) → Agrees (m .state .count) p s → Refines (takenIn m p) (takenWhole (view m) s)
   taken-refines (goesOn m′) (done b) a = changed m′ b (a .1) (a .0) accepted
   taken-refines (stops r) (fails r′) a = rw (← a) (unchanged m g (refused r))
 
@@ -70,7 +70,7 @@ module _ (m : Memory) (g : Good m) (k : ℕ) (buffer : List ℕ) (u : Bytes buff
           → Refines
           (cond (not t) (refusing notAttached m) (cond l (refusing bufferTooLong m) (takenIn m (itemsIn k (itemsOf buffer) (goesOn m)))))
           (cond (not t) (refuses notAttached (view m))
-          (cond l (refuses bufferTooLong (view m)) (taken (view m) (takeItems k (itemsOf buffer) (done (view m))))))
+          (cond l (refuses bufferTooLong (view m)) (takenWhole (view m) (takeItems k (itemsOf buffer) (done (view m))))))
       go false e l = unchanged m g (refused notAttached)
       go true e true = unchanged m g (refused bufferTooLong)
       go true e false =
@@ -78,7 +78,7 @@ module _ (m : Memory) (g : Good m) (k : ℕ) (buffer : List ℕ) (u : Bytes buff
           (items-agree k (itemsOf buffer) m g (ltb-true k (m .state .count) e) (items-valid buffer) (item-bytes buffer u))
 
 -- submit, for every valid memory and every buffer of bytes
-pub submit-refines : (m : Memory) (k : ℕ) (buffer : List ℕ) → Typed m → validState (m .state) (m .slots) ≡ true → Bytes buffer
+pub submit-refines : (m : Memory) (k : ℕ) (buffer : List ℕ) → TypedMemory m → validState (m .state) (m .slots) ≡ true → Bytes buffer
     → Refines (submitIn m k buffer) (submit (view m) k buffer)
 unfolding submitIn
 submit-refines m k buffer t v u =

@@ -14,7 +14,7 @@ use Rattle.plain_bus.specs.Held.{Node, Bus, lastRound, newNode, nodeAt, withNod
 use Rattle.plain_bus.specs.Round.{without}
 use Rattle.plain_bus.specs.Valid.{ValidNode, Valid}
 use Rattle.plain_bus.proofs.Nodes.{length-each, each-at}
-use Rattle.plain_bus.proofs.Kept.{by-number}
+use Rattle.plain_bus.proofs.Preserved.{by-number}
 use Rattle.bus_state.specs.Memory.{Memory, slotAt, nodeView, view}
 use Rattle.bus_state.specs.declared.NodeState.{NodeState}
 use Rattle.bus_state.specs.Entries.{entryFill}

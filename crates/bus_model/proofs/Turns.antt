@@ -9,7 +9,7 @@ use lib.ListN.{length}
 use Rattle.plain_bus.specs.Held.{Node, Bus, withNodes, eachNode, everyNode, hasRoom, allHaveRoom}
 use Rattle.plain_bus.specs.Valid.{ValidNode, Valid}
 use Rattle.plain_bus.proofs.Nodes.{room-at}
-use Rattle.plain_bus.proofs.Kept.{by-number}
+use Rattle.plain_bus.proofs.Preserved.{by-number}
 use Rattle.bus_state.specs.Memory.{Memory, nodeView, nodesFrom, view}
 use Rattle.bus_model.specs.Primitives.{entryAt, inTurn}
 use Rattle.bus_model.specs.Submit.{roomForEach}

@@ -22,7 +22,7 @@ use Rattle.bus_state.specs.Valid.{validSlot, validSlots, nonZero, validEntry, v
 use Rattle.bus_state.specs.declared.State.{State}
 use Rattle.bus_state.specs.declared.NodeState.{NodeState}
 use Rattle.bus_model.specs.Primitives.{entryAt}
-use Rattle.bus_model.specs.Refines.{Typed}
+use Rattle.bus_model.specs.Refines.{TypedMemory}
 use Rattle.buffers.proofs.Offsets.{length-part}
 use Rattle.bus_model.proofs.Views.{Fits, length-frames, queue-filled}
 use Rattle.bus_model.proofs.Buses.{view-length, view-at, view-round}
@@ -33,7 +33,7 @@ abbrev pub Owned : Memory → ℕ → Type 0
 Owned m j = (q : ℕ) → q < entryAt m j .pending → slotAt m (4 * j + q) .owner ≡ j
 
 pub record Good (m : Memory) : Type 0 where
-  pub typed : Typed m
+  pub typed : TypedMemory m
   pub valid : Valid (view m)
   pub fill : (j : ℕ) → j < m .state .count → entryAt m j .fill ≤ 4_096
   pub owned : (j : ℕ) → j < m .state .count → Owned m j
@@ -64,7 +64,7 @@ unfolding validSlot
 is-slot j low now s v =
     rw (v .lawful, eq-eqb (s .owner) j (v .owner), le-leb low (s .accepted) (v .least), le-leb (s .accepted) now (v .most))
 
-module _ (m : Memory) (j now : ℕ) (t : Typed m) where
+module _ (m : Memory) (j now : ℕ) (t : TypedMemory m) where
   frame-valid : (p : ℕ) → p < 32 → legalContent (contentOf (slotAt m p)) ≡ true → ValidFrame (frameAt m p)
   unfolding frameAt
   frame-valid p h l =
@@ -203,7 +203,7 @@ pub node-is : (m : Memory) (j : ℕ) → validNode (m .state .round) j (entryAt 
 unfolding validNode
 node-is m j e = let a = both (validEntry (entryAt m j)) _ e in record { entry = entry-is (entryAt m j) (a .0); slots = a .1 }
 
-node-valid : (m : Memory) (j : ℕ) → Typed m → j < 8 → NodeIs m j → ValidNode (m .state .round) (nodeView m j)
+node-valid : (m : Memory) (j : ℕ) → TypedMemory m → j < 8 → NodeIs m j → ValidNode (m .state .round) (nodeView m j)
 unfolding nodeView framesFrom
 node-valid m j t h v = record {
   status = v .entry .status;
@@ -217,7 +217,7 @@ node-valid m j t h v = record {
   frames = slots-frames m j (m .state .round) t (entryAt m j .pending) (4 * j) 0 (omega (arith, v .entry .few)) (v .slots);
 }
 
-valid-node : (m : Memory) (j : ℕ) → Typed m → entryAt m j .fill ≤ 4_096 → Owned m j → ValidNode (m .state .round) (nodeView m j)
+valid-node : (m : Memory) (j : ℕ) → TypedMemory m → entryAt m j .fill ≤ 4_096 → Owned m j → ValidNode (m .state .round) (nodeView m j)
     → validNode (m .state .round) j (entryAt m j) (m .slots) ≡ true
 unfolding nodeView validNode
 valid-node m j t f o v =
@@ -247,7 +247,7 @@ valid-node-at m e j h =
     let a = both (leb 2 (m .state .count) && leb (m .state .count) 8) (validNodes (m .state .count) 0 (m .state) (m .slots)) e in
     node-is m j (rw zero-add at (nodes-valid-at (m .state .count) 0 (m .state) (m .slots) (a .1) j h))
 
-pub valid-good : (m : Memory) → Typed m → validState (m .state) (m .slots) ≡ true → Good m
+pub valid-good : (m : Memory) → TypedMemory m → validState (m .state) (m .slots) ≡ true → Good m
 valid-good m t e =
     let at = valid-node-at m e in
     let most = valid-count m e .1 in

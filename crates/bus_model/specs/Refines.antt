@@ -27,7 +27,7 @@ pub record TypedSlot (s : Slot) : Type 0 where
   pub fourth : s .fourth < 2 ^ 8
 
 -- memory as its types and sizes say
-pub record Typed (m : Memory) : Type 0 where
+pub record TypedMemory (m : Memory) : Type 0 where
   pub sized : Sized m
   pub round : m .state .round ≤ lastRound
   pub rates : (j : ℕ) → j < 8 → length (entryAt m j .rates) ≡ 3
@@ -38,4 +38,4 @@ pub record Refines (r : Result) (o : Outcome) : Type 0 where
   pub bus : view (r .memory) ≡ o .bus
   pub answer : r .reply ≡ answers (o .answer)
   pub valid : validState (r .memory .state) (r .memory .slots) ≡ true
-  pub typed : Typed (r .memory)
+  pub typed : TypedMemory (r .memory)

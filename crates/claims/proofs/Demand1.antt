@@ -25,14 +25,14 @@ use Rattle.bus_state.specs.Valid.{validState}
 use Rattle.bus_state.specs.declared.State.{State}
 use Rattle.bus_model.specs.Primitives.{newState, startMemory}
 use Rattle.bus_model.specs.Calls.{Reply, wrongMemory, answers, replyDone, Result, replies, refusing, lentWell, checked, noStart, startIn, submitted, submitIn, rounded, roundIn, collection, collectIn, bufferAfter}
-use Rattle.bus_model.specs.Refines.{Typed}
+use Rattle.bus_model.specs.Refines.{TypedMemory}
 use Rattle.bus_model.specs.Session.{callIn}
 use Rattle.bus_model.proofs.Refused as model
 use Rattle.outcome.specs.Outcome.{outcomeIs, answerOf}
 use Rattle.bus.specs.Left.{leaves}
-use Rattle.open_frames.specs.Kept.{openIn, answered}
+use Rattle.open_frames.specs.Record.{openIn, answered}
 use Rattle.open_frames.specs.declared.Register.{Register}
-use Rattle.claims.specs.Demands.{Call, leftBy, plainCall, firstRow, startRows, plainRows, rows, writeRows, Kept, Demand1}
+use Rattle.claims.specs.Demands.{Call, leftBy, plainCall, firstRow, startRows, plainRows, rows, writeRows, KeptIfRefused, Demand1}
 use Rattle.claims.proofs.Answers.{left-call, refusal-row}
 use Rattle.claims.proofs.Calls.{same-number}
 use Rattle.claims.proofs.Rows.{plain-number, enter-number, read-number}
@@ -51,7 +51,7 @@ call-checked m (session.submission k buffer) = refl
 call-checked m (session.round e) = refl
 call-checked m (session.collection k room) = refl
 
-numbered : (m : Memory) (c : Call) → (lentWell m ≡ true → Typed m) → leftBy m c .answer .number ≡ firstRow (rows m c)
+numbered : (m : Memory) (c : Call) → (lentWell m ≡ true → TypedMemory m) → leftBy m c .answer .number ≡ firstRow (rows m c)
 unfolding firstRow
 numbered m c typed = go (lentWell m) refl (validState (m .state) (m .slots)) refl
   where
@@ -65,10 +65,10 @@ numbered m c typed = go (lentWell m) refl (validState (m .state) (m .slots)) ref
 -- ---- nothing is changed
 
 -- a result that keeps the memory where it is refused
-result-kept : (m : Memory) (r : Result) → model.Kept m r → Kept m (leaves r)
+result-kept : (m : Memory) (r : Result) → model.SameMemory m r → KeptIfRefused m (leaves r)
 result-kept m r k = go (r .reply) (r .memory) k
   where
-    go : (x : Reply) (y : Memory) → (replyDone x ≡ false → y ≡ m) → Kept m (leaves (record { reply = x; memory = y }))
+    go : (x : Reply) (y : Memory) → (replyDone x ≡ false → y ≡ m) → KeptIfRefused m (leaves (record { reply = x; memory = y }))
     go wrongMemory y k n = rw (k refl)
     go (answers (refused x)) y k n = rw (k refl, refusal-row x (m .state))
     go (answers accepted) y k n = absurd (n refl)
@@ -76,7 +76,7 @@ result-kept m r k = go (r .reply) (r .memory) k
     go (answers (carried sender id errored age)) y k n = absurd (n refl)
     go (answers (collected bytes)) y k n = absurd (n refl)
 
-call-kept : (m : Memory) (c : session.Call) → model.Kept m (callIn m c)
+call-kept : (m : Memory) (c : session.Call) → model.SameMemory m (callIn m c)
 unfolding callIn
 call-kept m (session.submission k buffer) = model.submit-kept m k buffer
 call-kept m (session.round e) = model.round-kept m e
@@ -113,17 +113,17 @@ start-number m count = go (lentWell m) (leb 2 count && leb count 8)
 -- ---- write
 
 write-number : (op : Operation) (given room : ℕ)
-    → encoder.numberOf (encoder.answerOf op given room) ≡ firstRow (writeRows op given room)
-unfolding encoder.answerOf encoder.decision firstRow
+    → encoder.writtenNumber (encoder.writeOutcome op given room) ≡ firstRow (writeRows op given room)
+unfolding encoder.writeOutcome encoder.decision firstRow
 write-number op given room = go (legal op && eqb given (dataLength op) && leb given 65_535) (leb (lengthOf op) room)
   where
     go : (t u : Bool)
-        → encoder.numberOf (cond t (cond u (Done (lengthOf op)) BufferTooSmall) RuleBroken) ≡ cond (not t) 7 (cond (not u) 11 0)
+        → encoder.writtenNumber (cond t (cond u (Done (lengthOf op)) BufferTooSmall) RuleBroken) ≡ cond (not t) 7 (cond (not u) 11 0)
     go true true = refl
     go true false = refl
     go false u = refl
 
-write-kept : (w : Written) (bytes buffer : List ℕ) → (encoder.numberOf w ≡ 0 → ⊥) → encoder.bufferAfter w bytes buffer ≡ buffer
+write-kept : (w : Written) (bytes buffer : List ℕ) → (encoder.writtenNumber w ≡ 0 → ⊥) → encoder.bufferWritten w bytes buffer ≡ buffer
 write-kept (Done n) bytes buffer k = absurd (k refl)
 write-kept RuleBroken bytes buffer k = refl
 write-kept BufferTooSmall bytes buffer k = refl
@@ -150,7 +150,7 @@ demand1 = record {
   bufferKept = λ m node buffer.
       let r = collectIn m node (length buffer) in buffer-past (r .reply) (r .memory .state) buffer;
   writeNumber = write-number;
-  writeKept = λ op payload buffer. write-kept (encoder.answerOf op (length payload) (length buffer)) (encode op payload) buffer;
+  writeKept = λ op payload buffer. write-kept (encoder.writeOutcome op (length payload) (length buffer)) (encode op payload) buffer;
   enterNumber = λ r buffer. answered-number r (enter (openIn r) buffer) ∙ enter-number (openIn r) buffer;
   readNumber = λ r buffer. answered-number r (read (openIn r) buffer) ∙ read-number (openIn r) buffer;
   registerKept = register-kept;

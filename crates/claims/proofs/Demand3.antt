@@ -13,8 +13,9 @@ use Rattle.plain_bus.specs.Refusal.{badNodeCount}
 use Rattle.plain_bus.specs.Calls.{accepted, isDone, bytesGiven, start}
 use Rattle.plain_bus.specs.Register.{newRegister, enter, read}
 use Rattle.plain_bus.specs.Session as session
-use Rattle.plain_bus.proofs.Kept.{started}
-use Rattle.plain_bus.proofs.Demand3.{Good, run-good, run-bus, opening-good}
+use Rattle.plain_bus.specs.Network as network
+use Rattle.plain_bus.proofs.Preserved.{started}
+use Rattle.plain_bus.proofs.Networks.{Good, play-good, play-bus, start-good}
 use Rattle.bus_state.specs.Memory.{Memory, held}
 use Rattle.bus_model.specs.Primitives.{newState, startMemory}
 use Rattle.bus_model.specs.Calls.{wrongMemory, replies, refusing, lentWell, noStart, startIn}
@@ -31,16 +32,16 @@ use Rattle.claims.proofs.Registers.{map-replicate, Flattens, choose, re
 -- ---- a list of calls
 
 -- a session beside the plain bus with its registers
-record Beside (w : World) (p : session.World) : Type 0 where
+record Beside (w : World) (p : network.Network) : Type 0 where
   bus : Follows (w .memory) (p .bus)
   registers : Flattens (w .registers) (p .registers)
   good : Good p
 
 -- the register call that follows is the same
-follow-flattens : (w : World) (p : session.World) → Beside w p → (c : Call)
+follow-flattens : (w : World) (p : network.Network) → Beside w p → (c : Call)
     → let a = session.call (p .bus) (plainCall c) .answer in
-    Flattens (cond (isDone a) (followUp (w .memory) (w .registers) c) (w .registers)) (session.followUp (p .registers) (plainCall c) a)
-unfolding followUp session.followUp
+    Flattens (cond (isDone a) (followUp (w .memory) (w .registers) c) (w .registers)) (network.registerCall (p .registers) (plainCall c) a)
+unfolding followUp network.registerCall
 follow-flattens w p s (submits node buffer u) =
     choose (isDone (session.call (p .bus) (session.submission node buffer) .answer))
     (keep-flattens (p .bus) (w .registers) (p .registers) (s .good .agree) (s .registers) node (λ r. enter r buffer))
@@ -58,26 +59,26 @@ follow-flattens w p s (collects node buffer) =
     (keep-flattens (p .bus) (w .registers) (p .registers) (s .good .agree) (s .registers) node (λ r. read r (bytesGiven a))))
     (s .registers)
 
-after-beside : (w : World) (p : session.World) → Beside w p → (c : Call)
-    → Beside (after w c) (session.after p (plainCall c) (session.call (p .bus) (plainCall c)))
-unfolding after session.after session.run
+after-beside : (w : World) (p : network.Network) → Beside w p → (c : Call)
+    → Beside (after w c) (network.networkAfter p (plainCall c) (session.call (p .bus) (plainCall c)))
+unfolding after network.networkAfter network.play
 after-beside w p s c =
     let done : eqb (leftBy (w .memory) c .answer .number) 0 ≡ isDone (session.call (p .bus) (plainCall c) .answer) =
     ap (λ (n : ℕ). eqb n 0) (same-number (s .bus) c) ∙ done-number (session.call (p .bus) (plainCall c) .answer) in
     record {
       bus = follows (s .bus) c;
       registers = rw done (follow-flattens w p s c);
-      good = run-good (plainCall c ∷ []) p (s .good);
+      good = play-good (plainCall c ∷ []) p (s .good);
     }
 
-run-beside : (cs : List Call) (w : World) (p : session.World) → Beside w p → Beside (run cs w) (session.run (map plainCall cs) p)
-unfolding run session.run
+run-beside : (cs : List Call) (w : World) (p : network.Network) → Beside w p → Beside (run cs w) (network.play (map plainCall cs) p)
+unfolding run network.play
 run-beside [] w p s = s
 run-beside (c ∷ cs) w p s = run-beside cs (after w c) _ (after-beside w p s c)
 
 -- ---- the claim
 
-claimed : (w : World) (p : session.World) → Beside w p → Claim w (p .bus)
+claimed : (w : World) (p : network.Network) → Beside w p → Claim w (p .bus)
 claimed w p s = record {
   bus = s .bus .bus;
   passes = record { typed = s .bus .typed; valid = s .bus .valid };
@@ -114,8 +115,8 @@ unfolding start
 plain-accepted count e = rw e
 
 start-beside : (m : Memory) (count : ℕ) → Accepted m count
-    → Beside (opening (leaves (startIn m count))) (session.opening (start count .bus))
-unfolding session.opening
+    → Beside (opening (leaves (startIn m count))) (network.newNetwork (start count .bus))
+unfolding network.newNetwork
 start-beside m count a =
     let r = startIn m count in
     let s = start-refines m count (a .lent) (a .fits) in
@@ -124,15 +125,15 @@ start-beside m count a =
     record {
       bus = rw (left-memory r) (record { bus = s .bus; valid = s .valid; typed = s .typed });
       registers = record { each = rw size (map-replicate (leaves (startIn m count) .answer .state .count) newRegister); numbers = refl };
-      good = opening-good (start count .bus) (started count (plain-accepted count (a .fits)));
+      good = start-good (start count .bus) (started count (plain-accepted count (a .fits)));
     }
 
 pub demand3 : Demand3
-unfolding session.opening
+unfolding network.newNetwork
 demand3 slots payload queues count e cs =
     let m = held (newState 0) slots payload queues in
     let o = start-beside m count (start-accepted m count e) in
-    let s = run-beside cs (opening (leaves (startIn m count))) (session.opening (start count .bus)) o in
+    let s = run-beside cs (opening (leaves (startIn m count))) (network.newNetwork (start count .bus)) o in
     subst (Claim (run cs (opening (leaves (startIn (held (newState 0) slots payload queues) count)))))
-    (run-bus (map plainCall cs) (session.opening (start count .bus)))
+    (play-bus (map plainCall cs) (network.newNetwork (start count .bus)))
     (claimed _ _ s)

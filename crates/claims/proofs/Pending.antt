@@ -8,9 +8,9 @@ use mathlib.Core.List.{List, [], _∷_, _++_}
 use lib.Dec.{eqb}
 use lib.ListN.{length}
 use Rattle.decoder.specs.Stream.{itemsOf}
-use Rattle.plain_bus.specs.Held.{Frame, Node, Bus, nodeAt}
+use Rattle.plain_bus.specs.Held.{Frame, Node, Bus, discards, nodeAt}
 use Rattle.plain_bus.specs.Order.{Entry}
-use Rattle.plain_bus.specs.Round.{Injection, without, losers, drops, stay}
+use Rattle.plain_bus.specs.Round.{Injection, without, losers, stay}
 use Rattle.plain_bus.specs.Calls.{accepted, Outcome}
 use Rattle.plain_bus.specs.Session as session
 use Rattle.plain_bus.proofs.Outcomes.{Came, turnedDown, idled, took, carriedOut, came}
@@ -45,7 +45,7 @@ among-without f (suc i) (g ∷ fs) (inr a) = inr (among-without f i fs a)
 
 among-stay : (f : Frame) (w : Entry) (j : ℕ) (d : Node) → Among f (stay w j d) → Among f (d .pending)
 unfolding stay losers
-among-stay f w j d = go (drops w j d) (eqb j (w .owner))
+among-stay f w j d = go (discards d) (eqb j (w .owner))
   where
     go : (t u : Bool) → Among f (cond t [] (cond u (without (w .position) (d .pending)) (d .pending))) → Among f (d .pending)
     go false true a = among-without f (w .position) (d .pending) a

@@ -12,17 +12,17 @@ use borrow.Author.Tests.{leb-true, leb-false}
 use Rattle.operation.proofs.Tests.{both}
 use Rattle.plain_bus.specs.Held.{Bus}
 use Rattle.plain_bus.specs.Register.{Register, maxOpen, newRegister, validRegister, Update, updated, rejected, updateNumber, registerAfter}
-use Rattle.plain_bus.specs.Session as session
+use Rattle.plain_bus.specs.Network as network
 use Rattle.plain_bus.proofs.Tally.{register-valid}
-use Rattle.plain_bus.proofs.Demand3.{Agree}
-use Rattle.open_frames.specs.Kept.{openIn, flat, answered}
+use Rattle.plain_bus.proofs.Networks.{Agree}
+use Rattle.open_frames.specs.Record.{openIn, recordOf, answered}
 use Rattle.claims.specs.Demands.{Registers, registerAt, keep}
 
 -- ---- one register
 
 -- what is written flat is read back, where it fits
-open-flat : (x : Register) → length (x .opened) ≤ maxOpen → openIn (flat x) ≡ x
-unfolding openIn flat
+open-flat : (x : Register) → length (x .opened) ≤ maxOpen → openIn (recordOf x) ≡ x
+unfolding openIn recordOf
 open-flat x h =
     let none : length (x .opened) - maxOpen ≡ 0 = omega arith in
     let all : take (length (x .opened)) (x .opened ++ replicate (maxOpen - length (x .opened)) 0) ≡ x .opened =
@@ -35,28 +35,28 @@ open-flat x h =
 
 -- a register call answers with the register after it, written flat
 answered-flat : (x : Register) (u : Update)
-    → answered (flat x) u ≡ record { number = updateNumber u; register = flat (registerAfter x u) }
+    → answered (recordOf x) u ≡ record { number = updateNumber u; register = recordOf (registerAfter x u) }
 answered-flat x (updated y) = refl
 answered-flat x (rejected r) = refl
 
 -- ---- all registers
 
-set-map : (xs : List Register) (k : ℕ) (y : Register) → set (map flat xs) k (flat y) ≡ map flat (set xs k y)
+set-map : (xs : List Register) (k : ℕ) (y : Register) → set (map recordOf xs) k (recordOf y) ≡ map recordOf (set xs k y)
 set-map [] k y = refl
 set-map (x ∷ xs) zero y = refl
-set-map (x ∷ xs) (suc k) y = ap (λ l. flat x ∷ l) (set-map xs k y)
+set-map (x ∷ xs) (suc k) y = ap (λ l. recordOf x ∷ l) (set-map xs k y)
 
-pub map-replicate : (n : ℕ) (x : Register) → replicate n (flat x) ≡ map flat (replicate n x)
+pub map-replicate : (n : ℕ) (x : Register) → replicate n (recordOf x) ≡ map recordOf (replicate n x)
 map-replicate zero x = refl
-map-replicate (suc n) x = ap (λ l. flat x ∷ l) (map-replicate n x)
+map-replicate (suc n) x = ap (λ l. recordOf x ∷ l) (map-replicate n x)
 
 -- the registers are those of the plain bus, written flat
-pub record Flattens (rs : Registers) (ps : session.Registers) : Type 0 where
-  pub each : rs .each ≡ map flat (ps .each)
+pub record Flattens (rs : Registers) (ps : network.NodeRegisters) : Type 0 where
+  pub each : rs .each ≡ map recordOf (ps .each)
   pub numbers : rs .numbers ≡ ps .answers
 
 -- the same choice on both sides
-pub choose : (t : Bool) {rs rs′ : Registers} {ps ps′ : session.Registers} → Flattens rs ps → Flattens rs′ ps′
+pub choose : (t : Bool) {rs rs′ : Registers} {ps ps′ : network.NodeRegisters} → Flattens rs ps → Flattens rs′ ps′
     → Flattens (cond t rs rs′) (cond t ps ps′)
 choose true f g = f
 choose false f g = g
@@ -74,21 +74,21 @@ few-open b rs a k = go (leb (length rs) k) refl
         let v = register-valid (a .bus .valid .each k (omega (arith, a .size))) (a .each k (omega (arith, a .size))) in
         leb-true (length (x .opened)) maxOpen (both (leb (length (x .opened)) maxOpen) _ (both _ _ v .0) .0)
 
-module _ (b : Bus) (rs : Registers) (ps : session.Registers) (a : Agree b (ps .each)) (f : Flattens rs ps) (k : ℕ) where
-  register-flat : registerAt rs k ≡ flat (session.registerAt ps k)
-  register-flat = rw (f .each) (List·getD-map flat (ps .each) k newRegister)
+module _ (b : Bus) (rs : Registers) (ps : network.NodeRegisters) (a : Agree b (ps .each)) (f : Flattens rs ps) (k : ℕ) where
+  register-flat : registerAt rs k ≡ recordOf (network.nodeRegister ps k)
+  register-flat = rw (f .each) (List·getD-map recordOf (ps .each) k newRegister)
 
-  pub register-open : openIn (registerAt rs k) ≡ session.registerAt ps k
-  register-open = rw register-flat (open-flat (session.registerAt ps k) (few-open b (ps .each) a k))
+  pub register-open : openIn (registerAt rs k) ≡ network.nodeRegister ps k
+  register-open = rw register-flat (open-flat (network.nodeRegister ps k) (few-open b (ps .each) a k))
 
   -- after a register call of node k
   pub keep-flattens : (call : Register → Update)
       → Flattens (keep rs k (answered (registerAt rs k) (call (openIn (registerAt rs k)))))
-      (session.keep ps k (call (session.registerAt ps k)))
-  unfolding session.keep
+      (network.noteUpdate ps k (call (network.nodeRegister ps k)))
+  unfolding network.noteUpdate
   keep-flattens call =
-      let x = session.registerAt ps k in
-      let u = call (session.registerAt ps k) in
+      let x = network.nodeRegister ps k in
+      let u = call (network.nodeRegister ps k) in
       rw (register-open, register-flat, answered-flat x u)
       (record {
         each = rw (f .each) (set-map (ps .each) k (registerAfter x u));

@@ -17,7 +17,7 @@ use Rattle.plain_bus.specs.Refusal.{notAttached, bufferTooLong, badInjection, f
 use Rattle.plain_bus.specs.Submit.{Step, done, fails, takeTransmit, wakeupFor, takeWakeup, formatError, answerFormatError, unanswered, takeItem, takeItems}
 use Rattle.plain_bus.specs.Order.{Entry, Winner, nobody, wins, winner}
 use Rattle.plain_bus.specs.Round.{Injection, isErrored, winnerId, owed, afterRound, age}
-use Rattle.plain_bus.specs.Calls.{carried, collected, answerNumber, gives, refuses, maxSubmit, taken, submit, wrongInjection, arbitrate, runRound, collect}
+use Rattle.plain_bus.specs.Calls.{carried, collected, answerNumber, gives, refuses, maxSubmit, takenWhole, submit, wrongInjection, arbitrate, runRound, collect}
 use Rattle.plain_bus.specs.Register.{Register, maxOpen, validRegister, Update, updated, rejected, updateNumber, updates, openId, enterItem, enter, isOpen, closeId, readItem, read}
 use Rattle.plain_bus.specs.Session as session
 use Rattle.claims.specs.Demands.{firstRow, stepNumber, isIdle, roomFor, plainRows, isRejected, enterRows, readRows}
@@ -75,7 +75,7 @@ submit-number b k buffer =
     (items-step k (itemsOf buffer) (done b) tt)
   where
     go : (t u : Bool) (s : Step) → ByStep s
-        → answerNumber (cond (not t) (refuses notAttached b) (cond u (refuses bufferTooLong b) (taken b s)) .answer)
+        → answerNumber (cond (not t) (refuses notAttached b) (cond u (refuses bufferTooLong b) (takenWhole b s)) .answer)
         ≡ cond (not t) 4 (cond u 5 (cond (eqb (stepNumber s) 8) 8 (cond (eqb (stepNumber s) 9) 9 0)))
     go false u s p = refl
     go true true s p = refl

@@ -31,12 +31,12 @@ use Rattle.bus_state.specs.Memory.{Memory, held, view}
 use Rattle.bus_state.specs.Valid.{validState}
 use Rattle.bus_model.specs.Primitives.{newState}
 use Rattle.bus_model.specs.Calls.{answers, replies, lentWell, startIn, submitIn, roundIn, collectIn, bufferAfter}
-use Rattle.bus_model.specs.Refines.{Typed}
+use Rattle.bus_model.specs.Refines.{TypedMemory}
 use Rattle.outcome.specs.Outcome.{outcomeIs, refusalRow, answerOf}
 use Rattle.outcome.specs.declared.Answer.{Answer}
 use Rattle.arbitration.specs.Injections.{injectionFrom}
 use Rattle.bus.specs.Left.{Left, left, leaves}
-use Rattle.open_frames.specs.Kept.{openIn, flat, answered}
+use Rattle.open_frames.specs.Record.{openIn, recordOf, answered}
 use Rattle.open_frames.specs.declared.Register.{Register}
 use Rattle.open_frames.specs.declared.RegisterAnswer.{RegisterAnswer}
 
@@ -135,8 +135,8 @@ abbrev pub readRows : register.Register → List ℕ → Rows
 readRows r buffer = (3, not (validRegister r)) ∷ (13, isRejected (updates readItem (itemsOf buffer) (updated r))) ∷ []
 
 -- a refused call gives only its number, and leaves the state and all that is lent as it found them
-abbrev pub Kept : Memory → Left → Type 0
-Kept m l =
+abbrev pub KeptIfRefused : Memory → Left → Type 0
+KeptIfRefused m l =
     (l .answer .number ≡ 0 → ⊥)
     → l ≡ left (refusalRow (l .answer .number) (m .state)) (m .slots) (m .payload) (m .queues)
 
@@ -146,19 +146,19 @@ pub record Demand1 : Type 0 where
       → let m = held (newState 0) slots payload queues in
       leaves (startIn m count) .answer .number ≡ firstRow (startRows m count)
   pub startKept : (slots : List Slot) (payload queues : List ℕ) (count : ℕ)
-      → let m = held (newState 0) slots payload queues in Kept m (leaves (startIn m count))
-  -- submit, round and collect; Typed says that the numbers in a memory fit the types of their fields, as in the code they do
-  pub callNumber : (m : Memory) (c : Call) → (lentWell m ≡ true → Typed m) → leftBy m c .answer .number ≡ firstRow (rows m c)
-  pub callKept : (m : Memory) (c : Call) → Kept m (leftBy m c)
+      → let m = held (newState 0) slots payload queues in KeptIfRefused m (leaves (startIn m count))
+  -- submit, round and collect; TypedMemory says that the numbers in a memory fit the types of their fields, as in the code they do
+  pub callNumber : (m : Memory) (c : Call) → (lentWell m ≡ true → TypedMemory m) → leftBy m c .answer .number ≡ firstRow (rows m c)
+  pub callKept : (m : Memory) (c : Call) → KeptIfRefused m (leftBy m c)
   -- past the length given, which is 0 where it is refused, a collect leaves the caller's buffer
   pub bufferKept : (m : Memory) (node : ℕ) (buffer : List ℕ)
       → let r = collectIn m node (length buffer) in
       drop (leaves r .answer .length) (bufferAfter (r .reply) buffer) ≡ drop (leaves r .answer .length) buffer
   -- write
   pub writeNumber : (op : Operation) (given room : ℕ)
-      → encoder.numberOf (encoder.answerOf op given room) ≡ firstRow (writeRows op given room)
+      → encoder.writtenNumber (encoder.writeOutcome op given room) ≡ firstRow (writeRows op given room)
   pub writeKept : (op : Operation) (payload buffer : List ℕ)
-      → (encoder.numberOf (encoder.answerOf op (length payload) (length buffer)) ≡ 0 → ⊥)
+      → (encoder.writtenNumber (encoder.writeOutcome op (length payload) (length buffer)) ≡ 0 → ⊥)
       → encoder.writtenOf op payload buffer ≡ buffer
   -- the register's calls
   pub enterNumber : (r : Register) (buffer : List ℕ)
@@ -171,7 +171,7 @@ pub record Demand1 : Type 0 where
 
 -- a memory that refusals 1 and 3 let pass
 pub record Passes (m : Memory) : Type 0 where
-  pub typed : Typed m
+  pub typed : TypedMemory m
   pub valid : validState (m .state) (m .slots) ≡ true
 
 -- a call is that of the plain bus on what is read from the memory, and leaves a memory that passes again
@@ -234,7 +234,7 @@ pub record Registers : Type 0 where
   pub numbers : List ℕ
 
 abbrev pub registerAt : Registers → ℕ → Register
-registerAt rs k = getD (rs .each) k (flat newRegister)
+registerAt rs k = getD (rs .each) k (recordOf newRegister)
 
 -- after a call of node k's register
 abbrev pub keep : Registers → ℕ → RegisterAnswer → Registers
@@ -258,7 +258,7 @@ pub record World : Type 0 where
 abbrev pub opening : Left → World
 opening l = record {
   memory = memoryOf l;
-  registers = record { each = replicate (l .answer .state .count) (flat newRegister); numbers = [] };
+  registers = record { each = replicate (l .answer .state .count) (recordOf newRegister); numbers = [] };
 }
 
 -- after a call, and the register call that follows where it was accepted

@@ -9,7 +9,7 @@ use native.Mathlib.Omega.{arith}
 use lib.ListN.{length, take, drop, length-drop, drop-of-length-le}
 use lib.Seq.{drop-append-seam, take-at, drop-at, length-take-le}
 use Rattle.operation.specs.Number.{Bytes}
-use Rattle.operation.specs.Format.{headLength, dataLength, lengthOf, header, encode, Typed}
+use Rattle.operation.specs.Format.{headLength, dataLength, lengthOf, header, encode, TypedOperation}
 use Rattle.operation.specs.Rules.{legal}
 use Rattle.operation.specs.declared.Operation.{Operation}
 use Rattle.operation.specs.declared.Operation.the-variants.{FormatError, CanTransmit, FdTransmit, XlTransmit, Confirm, ArbitrationLost, BusError, Configuration, Status, Wakeup}
@@ -27,7 +27,7 @@ use Rattle.decoder.proofs.Forward.{forward}
 use Rattle.decoder.proofs.Found.{found, stated-own}
 use Rattle.decoder.proofs.Payload.{data-found}
 use Rattle.decoder.proofs.Streams.{front-nil, items-joined}
-use Rattle.encoder.specs.Writing.{answerOf, writtenOf}
+use Rattle.encoder.specs.Writing.{writeOutcome, writtenOf}
 use Rattle.encoder.specs.declared.Written.the-variants.{Done}
 use Rattle.encoder.proofs.Answers.{accepted, accepts, written-bytes}
 use Rattle.codec.specs.Claims.{ReadsAs, WrittenReads, WritesAs, ReadWrites, after, ReadsThrough}
@@ -40,7 +40,7 @@ unfolding encode
 encoded-data op payload l = drop-at (header op) payload (headLength op) (header-length op l)
 
 -- encoded bytes are read, wherever they stand
-reads-as : (op : Operation) (payload before rest : List ℕ) → Typed op → legal op ≡ true → length payload ≡ dataLength op → dataLength op < 65536
+reads-as : (op : Operation) (payload before rest : List ℕ) → TypedOperation op → legal op ≡ true → length payload ≡ dataLength op → dataLength op < 65536
     → ReadsAs (before ++ (encode op payload ++ rest)) (length before) op payload (lengthOf op)
 unfolding readAt
 reads-as op payload before rest ty l w s =
@@ -66,7 +66,7 @@ written-reads op payload buffer n ty e before rest =
 
 -- ---- theorem 2
 
-data-typed : (op : Operation) → Typed op → dataLength op < 65536
+data-typed : (op : Operation) → TypedOperation op → dataLength op < 65536
 data-typed (FormatError n) ty = ty
 data-typed (CanTransmit id ide rtr dl) ty = ty .3
 data-typed (FdTransmit id ide brs esi dl) ty = ty .4
@@ -94,7 +94,7 @@ came (Found o n) at next op e =
 
 -- an operation that was found writes back to its bytes
 writes-as : (s : List ℕ) (at : ℕ) (op : Operation) (n : ℕ) → Bytes s → front (drop at s) ≡ Found op n
-    → Typed op × ((buffer : List ℕ) → n ≤ length buffer → WritesAs op (dataAt s op (at + n)) buffer (take n (drop at s)) n)
+    → TypedOperation op × ((buffer : List ℕ) → n ≤ length buffer → WritesAs op (dataAt s op (at + n)) buffer (take n (drop at s)) n)
 writes-as s at op n u e =
     let f = found e in
     let t = take n (drop at s) in
@@ -106,7 +106,7 @@ writes-as s at op n u e =
     ap length d ∙ length-drop (headLength op) t ∙ omega (arith, f .sized) in (
       b .typed,
       λ buffer room.
-          let answer : answerOf op (length (dataAt s op (at + n))) (length buffer) ≡ Done n =
+          let answer : writeOutcome op (length (dataAt s op (at + n))) (length buffer) ≡ Done n =
           accepts op (length (dataAt s op (at + n))) (length buffer) (f .lawful) whole (omega (arith, data-typed op (b .typed))) (omega (arith, f .sized))
           ∙ ap Done (sym (f .sized)) in
           record {

@@ -7,13 +7,13 @@ use mathlib.Core.List.{List, _++_}
 use Prim.Native.Nat.{ℕ, _+_, _-_, _≤_, _<_}
 use lib.ListN.{length, take, drop}
 use Rattle.operation.specs.Number.{Bytes}
-use Rattle.operation.specs.Format.{Typed}
+use Rattle.operation.specs.Format.{TypedOperation}
 use Rattle.operation.specs.declared.Operation.{Operation}
 use Rattle.decoder.specs.Reading.{cursorAt, readAt, dataAt}
 use Rattle.decoder.specs.Stream.{itemsOf, joined}
 use Rattle.decoder.specs.declared.Reading.{Reading}
 use Rattle.decoder.specs.declared.Reading.the-variants.{AtEnd, Faulty, Read}
-use Rattle.encoder.specs.Writing.{answerOf, writtenOf}
+use Rattle.encoder.specs.Writing.{writeOutcome, writtenOf}
 use Rattle.encoder.specs.declared.Written.{Written}
 use Rattle.encoder.specs.declared.Written.the-variants.{Done}
 
@@ -26,14 +26,14 @@ pub record ReadsAs (s : List ℕ) (at : ℕ) (op : Operation) (payload : List �
 abbrev pub WrittenReads : Type 0
 WrittenReads =
     (op : Operation) (payload buffer : List ℕ) (n : ℕ)
-    → Typed op
-    → answerOf op (length payload) (length buffer) ≡ Done n
+    → TypedOperation op
+    → writeOutcome op (length payload) (length buffer) ≡ Done n
     → (before rest : List ℕ)
     → ReadsAs (before ++ (take n (writtenOf op payload buffer) ++ rest)) (length before) op payload n
 
 -- op with its data is written to a buffer as the n bytes given
 pub record WritesAs (op : Operation) (payload buffer bytes : List ℕ) (n : ℕ) : Type 0 where
-  pub answer : answerOf op (length payload) (length buffer) ≡ Done n
+  pub answer : writeOutcome op (length payload) (length buffer) ≡ Done n
   pub same : take n (writtenOf op payload buffer) ≡ bytes
 
 -- Theorem 2: what reads well writes back to the same bytes, into any buffer with room for them; and its numbers fit
@@ -42,7 +42,7 @@ ReadWrites =
     (s : List ℕ) (at next : ℕ) (op : Operation)
     → Bytes s
     → readAt s at ≡ Read op (cursorAt next)
-    → Typed op
+    → TypedOperation op
     × ((buffer : List ℕ) → next - at ≤ length buffer
     → WritesAs op (dataAt s op next) buffer (take (next - at) (drop at s)) (next - at))
 

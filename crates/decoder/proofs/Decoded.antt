@@ -12,7 +12,7 @@ use lib.ListN.{length, getD, take, drop}
 use lib.Seq.{drop-cons}
 use borrow.Author.Tests.{eqb-true}
 use Rattle.operation.specs.Number.{littleEndian, number, numberAt, Bytes}
-use Rattle.operation.specs.Format.{codeOf, configurationLength, headLength, lengthOf, fieldsOf, header, encode, Typed}
+use Rattle.operation.specs.Format.{codeOf, configurationLength, headLength, lengthOf, fieldsOf, header, encode, TypedOperation}
 use Rattle.operation.specs.Rules.{legal}
 use Rattle.operation.specs.declared.Operation.{Operation}
 use Rattle.operation.specs.declared.Operation.the-variants.{FormatError, CanTransmit, FdTransmit, XlTransmit, Confirm, ArbitrationLost, BusError, Configuration, Status, Wakeup}
@@ -87,7 +87,7 @@ module _ (t : List ℕ) (u : Bytes t) where
 
   -- an operation's numbers fit, and its bytes are t
   pub record Back (op : Operation) : Type 0 where
-    pub typed : Typed op
+    pub typed : TypedOperation op
     pub same : encode op (drop (headLength op) t) ≡ t
 
   module _ (stated : numberAt 4 t 4 ≡ length t) where

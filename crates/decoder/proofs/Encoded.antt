@@ -12,7 +12,7 @@ use lib.ListN.{length, getD, take, length-append}
 use lib.Seq.{take-at, take-length}
 use borrow.Author.Tests.{le-leb, eq-eqb, leb-true, eqb-true}
 use Rattle.operation.specs.Number.{littleEndian, number, numberAt}
-use Rattle.operation.specs.Format.{configurationLength, headLength, dataLength, codeOf, lengthOf, header, encode, Typed}
+use Rattle.operation.specs.Format.{configurationLength, headLength, dataLength, codeOf, lengthOf, header, encode, TypedOperation}
 use Rattle.operation.specs.Rules.{behaviours, oneOf, rules, legal}
 use Rattle.operation.specs.declared.Operation.{Operation}
 use Rattle.operation.specs.declared.Operation.the-variants.{FormatError, CanTransmit, FdTransmit, XlTransmit, Confirm, ArbitrationLost, BusError, Configuration, Status, Wakeup}
@@ -64,7 +64,7 @@ configuration-least kind value l = go (eqb kind 4) refl
     go true e = rw e (lit≤ tt)
     go false e = rw (baud-length kind value l e) (lit≤ tt)
 
-pub encoded : (op : Operation) (payload rest : List ℕ) → Typed op → legal op ≡ true → length payload ≡ dataLength op → dataLength op < 65536
+pub encoded : (op : Operation) (payload rest : List ℕ) → TypedOperation op → legal op ≡ true → length payload ≡ dataLength op → dataLength op < 65536
     → front (encode op payload ++ rest) ≡ Found op (lengthOf op)
 unfolding header encode shapeOf legal rules
 encoded (FormatError n) payload rest ty l p s =

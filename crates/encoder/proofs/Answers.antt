@@ -15,7 +15,7 @@ use Rattle.operation.specs.declared.Operation.{Operation}
 use Rattle.operation.specs.declared.Operation.the-variants.{FormatError, XlTransmit, Wakeup}
 use Rattle.operation.proofs.Tests.{both, passed}
 use Rattle.operation.proofs.Sizes.{head-small, header-length, encode-length}
-use Rattle.encoder.specs.Writing.{decision, answerOf, bufferAfter, writtenOf}
+use Rattle.encoder.specs.Writing.{decision, writeOutcome, bufferWritten, writtenOf}
 use Rattle.encoder.specs.declared.Written.{Written}
 use Rattle.encoder.specs.declared.Written.the-variants.{Done, RuleBroken, BufferTooSmall}
 use Rattle.buffers.specs.Parts.{over}
@@ -34,8 +34,8 @@ pub record Accepted (op : Operation) (given room n : ℕ) : Type 0 where
   pub whole : given ≡ dataLength op
   pub short : given ≤ 65535
 
-accepted-by : (op : Operation) (given room n : ℕ) → answerOf op given room ≡ Done n → Accepted op given room n
-unfolding answerOf decision
+accepted-by : (op : Operation) (given room n : ℕ) → writeOutcome op given room ≡ Done n → Accepted op given room n
+unfolding writeOutcome decision
 accepted-by op given room n e =
     go (legal op && eqb given (dataLength op) && leb given 65535) refl (leb (lengthOf op) room) refl e
   where
@@ -55,13 +55,13 @@ accepted-by op given room n e =
     go true qw false qr e = let z : _≡_ {A = ℕ} 0 1 = cc in absurd (omega arith)
     go false qw r qr e = let z : _≡_ {A = ℕ} 0 1 = cc in absurd (omega arith)
 
-pub accepted : {op : Operation} {given room n : ℕ} → answerOf op given room ≡ Done n → Accepted op given room n
+pub accepted : {op : Operation} {given room n : ℕ} → writeOutcome op given room ≡ Done n → Accepted op given room n
 accepted {op} {given} {room} {n} e = accepted-by op given room n e
 
 -- the answer to an operation, from that to its kind's numbers
 pub answers : (op : Operation) (given room : ℕ) {lawful : Bool} {w : Written} → lawful ≡ legal op
-    → w ≡ decision lawful (headLength op) (dataLength op) given room → w ≡ answerOf op given room
-unfolding answerOf
+    → w ≡ decision lawful (headLength op) (dataLength op) given room → w ≡ writeOutcome op given room
+unfolding writeOutcome
 answers op given room q e = e ∙ ap (λ (b : Bool). decision b (headLength op) (dataLength op) given room) q
 
 -- a Format Error and a Wakeup have no rules
@@ -83,34 +83,34 @@ unfolding legal rules
 xl-short id ide sec sdt vcid af dl l = leb-true dl 2_048 (both (leb 1 dl) (leb dl 2_048) (passed _ l 3) .1)
 
 -- the header at the front and the data behind it are the operation, written
-pub written : (op : Operation) (payload l : List ℕ) {l₁ l₂ : List ℕ} {n : ℕ} → answerOf op (length payload) (length l) ≡ Done n
+pub written : (op : Operation) (payload l : List ℕ) {l₁ l₂ : List ℕ} {n : ℕ} → writeOutcome op (length payload) (length l) ≡ Done n
     → l₁ ≡ over l 0 (header op) → l₂ ≡ over l₁ (headLength op) payload → l₂ ≡ writtenOf op payload l
 unfolding writtenOf encode
 written op payload l e p q =
     rw (e, q, p, ← header-length op (accepted e .lawful)) (behind l (header op) payload)
 
 -- the header alone is the operation, written, where it has no data
-pub written-bare : (op : Operation) (payload l : List ℕ) {l₁ : List ℕ} {n : ℕ} → answerOf op (length payload) (length l) ≡ Done n
+pub written-bare : (op : Operation) (payload l : List ℕ) {l₁ : List ℕ} {n : ℕ} → writeOutcome op (length payload) (length l) ≡ Done n
     → dataLength op ≡ 0 → l₁ ≡ over l 0 (header op) → l₁ ≡ writtenOf op payload l
 unfolding writtenOf encode
 written-bare op [] l e z p = rw (e, p, append-nil (header op))
 written-bare op (b ∷ payload) l e z p = absurd (omega (arith, accepted e .whole))
 
 -- a refused write leaves the buffer as it was
-pub kept : (op : Operation) (payload l : List ℕ) {w : Written} → answerOf op (length payload) (length l) ≡ w
-    → l ≡ bufferAfter w (encode op payload) l → l ≡ writtenOf op payload l
+pub kept : (op : Operation) (payload l : List ℕ) {w : Written} → writeOutcome op (length payload) (length l) ≡ w
+    → l ≡ bufferWritten w (encode op payload) l → l ≡ writtenOf op payload l
 unfolding writtenOf
 kept op payload l e h = rw e h
 
 -- what is accepted
 pub accepts : (op : Operation) (given room : ℕ) → legal op ≡ true → given ≡ dataLength op → given ≤ 65535 → lengthOf op ≤ room
-    → answerOf op given room ≡ Done (lengthOf op)
-unfolding answerOf decision
+    → writeOutcome op given room ≡ Done (lengthOf op)
+unfolding writeOutcome decision
 accepts op given room l w s r =
     rw (l, eq-eqb given (dataLength op) w, le-leb given 65535 s, le-leb (lengthOf op) room r)
 
 -- the bytes that an accepted write leaves at the front are the operation's
-pub written-bytes : (op : Operation) (payload l : List ℕ) {n : ℕ} → answerOf op (length payload) (length l) ≡ Done n
+pub written-bytes : (op : Operation) (payload l : List ℕ) {n : ℕ} → writeOutcome op (length payload) (length l) ≡ Done n
     → take n (writtenOf op payload l) ≡ encode op payload
 unfolding writtenOf over
 written-bytes op payload l {n} e =

@@ -14,10 +14,10 @@ use Rattle.encoder.specs.declared.Written.{Written}
 use Rattle.encoder.specs.declared.Written.the-variants.{Done, RuleBroken, BufferTooSmall}
 
 -- document 01's number for each answer
-abbrev pub numberOf : Written → ℕ
-numberOf (Done n) = 0
-numberOf RuleBroken = 7
-numberOf BufferTooSmall = 11
+abbrev pub writtenNumber : Written → ℕ
+writtenNumber (Done n) = 0
+writtenNumber RuleBroken = 7
+writtenNumber BufferTooSmall = 11
 
 -- the operation meets its rules, its data are as many bytes as it says and not above 65,535, and the buffer has room for
 -- its header and data
@@ -26,14 +26,14 @@ decision lawful head said given room =
     cond (lawful && eqb given said && leb given 65_535) (cond (leb (head + said) room) (Done (head + said)) BufferTooSmall) RuleBroken
 
 -- the answer, for so many data bytes and a buffer of so many bytes
-unfoldable pub answerOf : Operation → ℕ → ℕ → Written
-answerOf op given room = decision (legal op) (headLength op) (dataLength op) given room
+unfoldable pub writeOutcome : Operation → ℕ → ℕ → Written
+writeOutcome op given room = decision (legal op) (headLength op) (dataLength op) given room
 
 -- the buffer after the answer: the operation at its front where it was written, and else as it was
-abbrev pub bufferAfter : Written → List ℕ → List ℕ → List ℕ
-bufferAfter (Done n) bytes buffer = over buffer 0 bytes
-bufferAfter RuleBroken bytes buffer = buffer
-bufferAfter BufferTooSmall bytes buffer = buffer
+abbrev pub bufferWritten : Written → List ℕ → List ℕ → List ℕ
+bufferWritten (Done n) bytes buffer = over buffer 0 bytes
+bufferWritten RuleBroken bytes buffer = buffer
+bufferWritten BufferTooSmall bytes buffer = buffer
 
 unfoldable pub writtenOf : Operation → List ℕ → List ℕ → List ℕ
-writtenOf op payload buffer = bufferAfter (answerOf op (length payload) (length buffer)) (encode op payload) buffer
+writtenOf op payload buffer = bufferWritten (writeOutcome op (length payload) (length buffer)) (encode op payload) buffer

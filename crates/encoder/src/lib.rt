@@ -8,7 +8,7 @@ ghost use lib.ListN.{length};
 ghost use Rattle.operation.specs.Number.{littleEndian};
 ghost use Rattle.operation.specs.Format.{configurationLength, headLength, lengthOf, header, encode};
 ghost use Rattle.operation.specs.Rules.{legal};
-ghost use Rattle.encoder.specs.Writing.{numberOf, decision, answerOf, writtenOf};
+ghost use Rattle.encoder.specs.Writing.{writtenNumber, decision, writeOutcome, writtenOf};
 ghost use Rattle.buffers.specs.Parts.{over};
 use buffers::put;
 use buffers::put_long;
@@ -26,7 +26,7 @@ pub enum Written {
 
 // The number of the answer: 0, 7 or 11.
 pub fn number_of(w: Written) -> u8
-    ensures { λ r. ⌜ r ≡ numberOf w ⌝ }
+    ensures { λ r. ⌜ r ≡ writtenNumber w ⌝ }
 {
     match w {
         Written::Done(_) => 0,
@@ -179,7 +179,7 @@ fn put_status(buffer: &mut [u8], status: u8)
 // Writing one kind: the answer, then the header and the data behind it. A caller that has the kind needs no `Operation`.
 
 pub fn write_format_error(n: u16, payload: &[u8], buffer: &mut [u8]) -> Written
-    ensures answer { λ r. ⌜ r ≡ answerOf (Operation.FormatError n) (length (now (payload .entry))) (length (now (buffer .entry))) ⌝ }
+    ensures answer { λ r. ⌜ r ≡ writeOutcome (Operation.FormatError n) (length (now (payload .entry))) (length (now (buffer .entry))) ⌝ }
     ensures written { λ _. ⌜ now (buffer .exit) ≡ writtenOf (Operation.FormatError n) (now (payload .entry)) (now (buffer .entry)) ⌝ }
 {
     let lawful = true;
@@ -196,7 +196,7 @@ pub fn write_format_error(n: u16, payload: &[u8], buffer: &mut [u8]) -> Written
 }
 
 pub fn write_can(id: u32, ide: u8, rtr: u8, dl: u16, payload: &[u8], buffer: &mut [u8]) -> Written
-    ensures answer { λ r. ⌜ r ≡ answerOf (Operation.CanTransmit id ide rtr dl) (length (now (payload .entry))) (length (now (buffer .entry))) ⌝ }
+    ensures answer { λ r. ⌜ r ≡ writeOutcome (Operation.CanTransmit id ide rtr dl) (length (now (payload .entry))) (length (now (buffer .entry))) ⌝ }
     ensures written { λ _. ⌜ now (buffer .exit) ≡ writtenOf (Operation.CanTransmit id ide rtr dl) (now (payload .entry)) (now (buffer .entry)) ⌝ }
 {
     let lawful = operation::can_is_legal(id, ide, rtr, dl);
@@ -221,7 +221,7 @@ pub fn write_fd(
     payload: &[u8],
     buffer: &mut [u8],
 ) -> Written
-    ensures answer { λ r. ⌜ r ≡ answerOf (Operation.FdTransmit id ide brs esi dl) (length (now (payload .entry))) (length (now (buffer .entry))) ⌝ }
+    ensures answer { λ r. ⌜ r ≡ writeOutcome (Operation.FdTransmit id ide brs esi dl) (length (now (payload .entry))) (length (now (buffer .entry))) ⌝ }
     ensures written { λ _. ⌜ now (buffer .exit) ≡ writtenOf (Operation.FdTransmit id ide brs esi dl) (now (payload .entry)) (now (buffer .entry)) ⌝ }
 {
     let lawful = operation::fd_is_legal(id, ide, brs, esi, dl);
@@ -248,7 +248,7 @@ pub fn write_xl(
     payload: &[u8],
     buffer: &mut [u8],
 ) -> Written
-    ensures answer { λ r. ⌜ r ≡ answerOf (Operation.XlTransmit id ide sec sdt vcid af dl) (length (now (payload .entry))) (length (now (buffer .entry))) ⌝ }
+    ensures answer { λ r. ⌜ r ≡ writeOutcome (Operation.XlTransmit id ide sec sdt vcid af dl) (length (now (payload .entry))) (length (now (buffer .entry))) ⌝ }
     ensures written { λ _. ⌜ now (buffer .exit) ≡ writtenOf (Operation.XlTransmit id ide sec sdt vcid af dl) (now (payload .entry)) (now (buffer .entry)) ⌝ }
 {
     let lawful = operation::xl_is_legal(id, ide, sec, sdt, vcid, af, dl);
@@ -265,7 +265,7 @@ pub fn write_xl(
 }
 
 pub fn write_confirm(id: u32, payload: &[u8], buffer: &mut [u8]) -> Written
-    ensures answer { λ r. ⌜ r ≡ answerOf (Operation.Confirm id) (length (now (payload .entry))) (length (now (buffer .entry))) ⌝ }
+    ensures answer { λ r. ⌜ r ≡ writeOutcome (Operation.Confirm id) (length (now (payload .entry))) (length (now (buffer .entry))) ⌝ }
     ensures written { λ _. ⌜ now (buffer .exit) ≡ writtenOf (Operation.Confirm id) (now (payload .entry)) (now (buffer .entry)) ⌝ }
 {
     let lawful = operation::id_is_legal(id);
@@ -281,7 +281,7 @@ pub fn write_confirm(id: u32, payload: &[u8], buffer: &mut [u8]) -> Written
 }
 
 pub fn write_arbitration_lost(id: u32, payload: &[u8], buffer: &mut [u8]) -> Written
-    ensures answer { λ r. ⌜ r ≡ answerOf (Operation.ArbitrationLost id) (length (now (payload .entry))) (length (now (buffer .entry))) ⌝ }
+    ensures answer { λ r. ⌜ r ≡ writeOutcome (Operation.ArbitrationLost id) (length (now (payload .entry))) (length (now (buffer .entry))) ⌝ }
     ensures written { λ _. ⌜ now (buffer .exit) ≡ writtenOf (Operation.ArbitrationLost id) (now (payload .entry)) (now (buffer .entry)) ⌝ }
 {
     let lawful = operation::id_is_legal(id);
@@ -304,7 +304,7 @@ pub fn write_bus_error(
     payload: &[u8],
     buffer: &mut [u8],
 ) -> Written
-    ensures answer { λ r. ⌜ r ≡ answerOf (Operation.BusError id code flag sender) (length (now (payload .entry))) (length (now (buffer .entry))) ⌝ }
+    ensures answer { λ r. ⌜ r ≡ writeOutcome (Operation.BusError id code flag sender) (length (now (payload .entry))) (length (now (buffer .entry))) ⌝ }
     ensures written { λ _. ⌜ now (buffer .exit) ≡ writtenOf (Operation.BusError id code flag sender) (now (payload .entry)) (now (buffer .entry)) ⌝ }
 {
     let lawful = operation::bus_error_is_legal(id, code, flag, sender);
@@ -320,7 +320,7 @@ pub fn write_bus_error(
 }
 
 pub fn write_status(status: u8, payload: &[u8], buffer: &mut [u8]) -> Written
-    ensures answer { λ r. ⌜ r ≡ answerOf (Operation.Status status) (length (now (payload .entry))) (length (now (buffer .entry))) ⌝ }
+    ensures answer { λ r. ⌜ r ≡ writeOutcome (Operation.Status status) (length (now (payload .entry))) (length (now (buffer .entry))) ⌝ }
     ensures written { λ _. ⌜ now (buffer .exit) ≡ writtenOf (Operation.Status status) (now (payload .entry)) (now (buffer .entry)) ⌝ }
 {
     let lawful = operation::status_is_legal(status);
@@ -336,7 +336,7 @@ pub fn write_status(status: u8, payload: &[u8], buffer: &mut [u8]) -> Written
 }
 
 pub fn write_configuration(kind: u8, value: u32, payload: &[u8], buffer: &mut [u8]) -> Written
-    ensures answer { λ r. ⌜ r ≡ answerOf (Operation.Configuration kind value) (length (now (payload .entry))) (length (now (buffer .entry))) ⌝ }
+    ensures answer { λ r. ⌜ r ≡ writeOutcome (Operation.Configuration kind value) (length (now (payload .entry))) (length (now (buffer .entry))) ⌝ }
     ensures written { λ _. ⌜ now (buffer .exit) ≡ writtenOf (Operation.Configuration kind value) (now (payload .entry)) (now (buffer .entry)) ⌝ }
 {
     let lawful = operation::configuration_is_legal(kind, value);
@@ -357,7 +357,7 @@ pub fn write_configuration(kind: u8, value: u32, payload: &[u8], buffer: &mut [u
 }
 
 pub fn write_wakeup(payload: &[u8], buffer: &mut [u8]) -> Written
-    ensures answer { λ r. ⌜ r ≡ answerOf Operation.Wakeup (length (now (payload .entry))) (length (now (buffer .entry))) ⌝ }
+    ensures answer { λ r. ⌜ r ≡ writeOutcome Operation.Wakeup (length (now (payload .entry))) (length (now (buffer .entry))) ⌝ }
     ensures written { λ _. ⌜ now (buffer .exit) ≡ writtenOf Operation.Wakeup (now (payload .entry)) (now (buffer .entry)) ⌝ }
 {
     let answer = decide(true, 8, 0, payload.len(), buffer.len());
@@ -373,7 +373,7 @@ pub fn write_wakeup(payload: &[u8], buffer: &mut [u8]) -> Written
 
 // Writes an operation with its data to the front of a buffer. A refusal changes nothing.
 pub fn write(op: Operation, payload: &[u8], buffer: &mut [u8]) -> Written
-    ensures answer { λ r. ⌜ r ≡ answerOf op (length (now (payload .entry))) (length (now (buffer .entry))) ⌝ }
+    ensures answer { λ r. ⌜ r ≡ writeOutcome op (length (now (payload .entry))) (length (now (buffer .entry))) ⌝ }
     ensures written { λ _. ⌜ now (buffer .exit) ≡ writtenOf op (now (payload .entry)) (now (buffer .entry)) ⌝ }
 {
     match op {

@@ -9,7 +9,7 @@ use Rattle.operation.specs.declared.Operation.{Operation}
 use Rattle.decoder.specs.Reading.{readAt, dataAt}
 use Rattle.decoder.specs.declared.Reading.{Reading}
 use Rattle.decoder.specs.declared.Reading.the-variants.{AtEnd, Faulty, Read}
-use Rattle.encoder.specs.Writing.{numberOf, answerOf, writtenOf}
+use Rattle.encoder.specs.Writing.{writtenNumber, writeOutcome, writtenOf}
 use Rattle.encoder.specs.declared.Written.{Written}
 use Rattle.encoder.specs.declared.Written.the-variants.{Done, RuleBroken, BufferTooSmall}
 use Rattle.kettlefrost.specs.Flat.{flat, blank}
@@ -43,16 +43,14 @@ lengthWritten (Done n) = n
 lengthWritten RuleBroken = 0
 lengthWritten BufferTooSmall = 0
 
-abbrev pub answered : Written → WriteAnswer
-answered w = record { refusal = numberOf w; length = lengthWritten w }
-
 -- an unknown code breaks a rule
 abbrev pub answerNamed : Named → ℕ → ℕ → Written
 answerNamed Unknown given room = RuleBroken
-answerNamed (Known op) given room = answerOf op given room
+answerNamed (Known op) given room = writeOutcome op given room
 
 abbrev pub writeAnswer : Named → ℕ → ℕ → WriteAnswer
-writeAnswer n given room = answered (answerNamed n given room)
+writeAnswer n given room =
+    let w = answerNamed n given room in record { refusal = writtenNumber w; length = lengthWritten w }
 
 abbrev pub bufferAfterWrite : Named → List ℕ → List ℕ → List ℕ
 bufferAfterWrite Unknown payload buffer = buffer

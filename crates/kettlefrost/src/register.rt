@@ -1,13 +1,13 @@
 // The register of open frames for C and Rust.
 ghost use mathlib.Core.Path.{_≡_};
 ghost use Rattle.plain_bus.specs.Register.{newRegister, enter, read};
-ghost use Rattle.open_frames.specs.Kept.{openIn, flat, answered};
+ghost use Rattle.open_frames.specs.Record.{openIn, recordOf, answered};
 use open_frames::Register;
 use open_frames::RegisterAnswer;
 
 #[no_mangle]
 pub extern "C" fn kf_register_new() -> Register
-    ensures { λ r. ⌜ r ≡ flat newRegister ⌝ }
+    ensures { λ r. ⌜ r ≡ recordOf newRegister ⌝ }
 {
     open_frames::new_register()
 }

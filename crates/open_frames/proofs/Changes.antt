@@ -12,7 +12,7 @@ use lib.Seq.{length-take-le, take-suc-set, take-all}
 use borrow.Author.Tests.{lt-leb, le-leb, eq-eqb, ne-eqb}
 use Rattle.plain_bus.specs.Refusal.{registerFull, registerDiffers}
 use Rattle.plain_bus.specs.Register as plain
-use Rattle.open_frames.specs.Kept.{openIn, flat}
+use Rattle.open_frames.specs.Record.{openIn, recordOf}
 use Rattle.open_frames.specs.Steps.{placeOf, withoutPlace}
 use Rattle.open_frames.specs.declared.Register.{Register}
 use Rattle.open_frames.proofs.Opened.{within, cut, moved-all}
@@ -114,8 +114,8 @@ zeroed ids i k h =
 pub flattened : (r : Register) (ids : List ℕ) (i off : ℕ) → r .count ≤ 345 → length (r .ids) ≡ 345 → length ids ≡ 345 → i ≡ 345
     → take i ids ++ replicate (345 - i) 0 ≡ take (r .count) (r .ids) ++ replicate (345 - r .count) 0
     → off ≡ cond (not (eqb (r .off) 0)) 1 0
-    → record { ids = ids; count = r .count; off = off } ≡ flat (openIn r)
-unfolding flat
+    → record { ids = ids; count = r .count; off = off } ≡ recordOf (openIn r)
+unfolding recordOf
 flattened r ids i off h k k′ z q o =
     let all : ids ≡ take (r .count) (r .ids) ++ replicate (345 - r .count) 0 =
     sym (append-nil ids) ∙ ap (λ (l : List ℕ). l ++ []) (sym (take-all 345 ids (omega arith))) ∙ rw z at q in

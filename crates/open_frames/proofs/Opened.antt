@@ -12,7 +12,7 @@ use lib.Seq.{length-take-le, drop-cons, drop-length, take-suc-set, drop-set-lt, 
 use borrow.Author.Tests.{lt-leb, le-leb, eq-eqb, ne-eqb, leb-true}
 use Rattle.operation.specs.Rules.{maxExtendedId}
 use Rattle.plain_bus.specs.Register as plain
-use Rattle.open_frames.specs.Kept.{openIn}
+use Rattle.open_frames.specs.Record.{openIn}
 use Rattle.open_frames.specs.Steps.{placeOf}
 use Rattle.open_frames.specs.declared.Register.{Register}
 

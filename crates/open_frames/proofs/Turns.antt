@@ -19,7 +19,7 @@ use Rattle.decoder.proofs.Forward.{forward}
 use Rattle.decoder.proofs.Streams.{front-nil, unroll}
 use Rattle.plain_bus.specs.Refusal.{RegisterRefusal, registerFull, registerDiffers}
 use Rattle.plain_bus.specs.Register.{Register, Update, updated, rejected, updates, enterItem, readItem}
-use Rattle.open_frames.specs.Kept.{openIn}
+use Rattle.open_frames.specs.Record.{openIn}
 use Rattle.open_frames.specs.Steps.{itemStep, given, stepOf}
 use Rattle.open_frames.specs.declared.Call.{Call}
 use Rattle.open_frames.specs.declared.Call.the-variants as calls

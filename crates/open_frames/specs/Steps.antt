@@ -8,7 +8,7 @@ use lib.ListN.{take, drop}
 use Rattle.decoder.specs.Stream.{Item}
 use Rattle.plain_bus.specs.Refusal.{registerFull, registerDiffers}
 use Rattle.plain_bus.specs.Register as plain
-use Rattle.open_frames.specs.Kept.{openIn}
+use Rattle.open_frames.specs.Record.{openIn}
 use Rattle.open_frames.specs.declared.Call.{Call}
 use Rattle.open_frames.specs.declared.Call.the-variants.{Enter, Read}
 use Rattle.open_frames.specs.declared.Register.{Register}

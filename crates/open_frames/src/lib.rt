@@ -6,7 +6,7 @@ ghost use Rattle.operation.specs.Kinds.{idOf};
 ghost use Rattle.decoder.specs.Stream.{operation, itemsOf};
 ghost use Rattle.plain_bus.specs.Closing.{closes};
 ghost use Rattle.plain_bus.specs.Register.{newRegister, validRegister, updated, updates, openId, noteStatus, enterItem, enter, closeId, readItem, read};
-ghost use Rattle.open_frames.specs.Kept.{openIn, flat, answered};
+ghost use Rattle.open_frames.specs.Record.{openIn, recordOf, answered};
 ghost use Rattle.open_frames.specs.Steps.{itemStep, stepOf, done, placeOf, withoutPlace};
 use decoder::Cursor;
 use decoder::Reading;
@@ -47,7 +47,7 @@ struct Step {
 }
 
 pub fn new_register() -> Register
-    ensures { λ r. ⌜ r ≡ flat newRegister ⌝ }
+    ensures { λ r. ⌜ r ≡ recordOf newRegister ⌝ }
 {
     let ids = [0u32; 345];
     Register {
@@ -365,7 +365,7 @@ fn apply_all(call: Call, register: Register, buffer: &[u8]) -> Step
 // 0 from count on, and off 0 or 1.
 fn flattened(register: Register) -> Register
     requires { ⌜ register .count ≤ 345 ⌝ }
-    ensures { λ r. ⌜ r ≡ flat (openIn register) ⌝ }
+    ensures { λ r. ⌜ r ≡ recordOf (openIn register) ⌝ }
 {
     let mut ids = register.ids;
     let count = register.count;

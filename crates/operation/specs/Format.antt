@@ -78,15 +78,15 @@ unfoldable pub encode : Operation → List ℕ → List ℕ
 encode op payload = header op ++ payload
 
 -- the numbers of an operation fit their fields, as the types of the source say
-abbrev pub Typed : Operation → Type 0
-Typed (FormatError n) = n < 2 ^ 16
-Typed (CanTransmit id ide rtr dl) = (id < 2 ^ 32) × (ide < 2 ^ 8) × (rtr < 2 ^ 8) × (dl < 2 ^ 16)
-Typed (FdTransmit id ide brs esi dl) = (id < 2 ^ 32) × (ide < 2 ^ 8) × (brs < 2 ^ 8) × (esi < 2 ^ 8) × (dl < 2 ^ 16)
-Typed (XlTransmit id ide sec sdt vcid af dl) =
+abbrev pub TypedOperation : Operation → Type 0
+TypedOperation (FormatError n) = n < 2 ^ 16
+TypedOperation (CanTransmit id ide rtr dl) = (id < 2 ^ 32) × (ide < 2 ^ 8) × (rtr < 2 ^ 8) × (dl < 2 ^ 16)
+TypedOperation (FdTransmit id ide brs esi dl) = (id < 2 ^ 32) × (ide < 2 ^ 8) × (brs < 2 ^ 8) × (esi < 2 ^ 8) × (dl < 2 ^ 16)
+TypedOperation (XlTransmit id ide sec sdt vcid af dl) =
     (id < 2 ^ 32) × (ide < 2 ^ 8) × (sec < 2 ^ 8) × (sdt < 2 ^ 8) × (vcid < 2 ^ 8) × (af < 2 ^ 32) × (dl < 2 ^ 16)
-Typed (Confirm id) = id < 2 ^ 32
-Typed (ArbitrationLost id) = id < 2 ^ 32
-Typed (BusError id code flag sender) = (id < 2 ^ 32) × (code < 2 ^ 8) × (flag < 2 ^ 8) × (sender < 2 ^ 8)
-Typed (Configuration kind value) = (kind < 2 ^ 8) × (value < 2 ^ 32)
-Typed (Status status) = status < 2 ^ 8
-Typed Wakeup = Unit {0}
+TypedOperation (Confirm id) = id < 2 ^ 32
+TypedOperation (ArbitrationLost id) = id < 2 ^ 32
+TypedOperation (BusError id code flag sender) = (id < 2 ^ 32) × (code < 2 ^ 8) × (flag < 2 ^ 8) × (sender < 2 ^ 8)
+TypedOperation (Configuration kind value) = (kind < 2 ^ 8) × (value < 2 ^ 32)
+TypedOperation (Status status) = status < 2 ^ 8
+TypedOperation Wakeup = Unit {0}

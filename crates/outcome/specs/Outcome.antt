@@ -6,11 +6,11 @@ use mathlib.Core.Bool.{cond}
 use lib.ListN.{length}
 use Rattle.slots.specs.Slots.{setBlock}
 use Rattle.slots.specs.declared.Slot.{Slot}
-use Rattle.plain_bus.specs.Refusal.{Refusal, badNodeCount, invalid, notAttached, bufferTooLong, badInjection, fourPending, queueFull, roundsUsedUp, roomTooSmall}
+use Rattle.plain_bus.specs.Refusal.{Refusal, numberOf, badNodeCount, invalid, notAttached, bufferTooLong, badInjection, fourPending, queueFull, roundsUsedUp, roomTooSmall}
 use Rattle.plain_bus.specs.Calls as calls
 use Rattle.bus_state.specs.Memory.{Memory, held}
 use Rattle.bus_state.specs.declared.State.{State}
-use Rattle.bus_model.specs.Calls.{Reply, wrongMemory, answers, Result}
+use Rattle.bus_model.specs.Calls.{Reply, wrongMemory, answers, replyNumber, Result}
 use Rattle.outcome.specs.declared.Outcome.{Outcome}
 use Rattle.outcome.specs.declared.Outcome.the-variants.{WrongMemory, BadNodeCount, Invalid, NotAttached, BufferTooLong, BadInjection, FourPending, QueueFull, RoundsUsedUp, RoomTooSmall, Accepted, Idle, Carried, Collected}
 use Rattle.outcome.specs.declared.Change.{Change}
@@ -53,16 +53,16 @@ abbrev pub refusalRow : ℕ → State → Answer
 refusalRow number s = answerRow number 0 0 0 0 0 0 s
 
 abbrev pub answerOf : Outcome → State → Answer
-answerOf WrongMemory s = refusalRow 1 s
-answerOf BadNodeCount s = refusalRow 2 s
-answerOf Invalid s = refusalRow 3 s
-answerOf NotAttached s = refusalRow 4 s
-answerOf BufferTooLong s = refusalRow 5 s
-answerOf BadInjection s = refusalRow 6 s
-answerOf FourPending s = refusalRow 8 s
-answerOf QueueFull s = refusalRow 9 s
-answerOf RoundsUsedUp s = refusalRow 10 s
-answerOf RoomTooSmall s = refusalRow 11 s
+answerOf WrongMemory s = refusalRow (replyNumber wrongMemory) s
+answerOf BadNodeCount s = refusalRow (numberOf badNodeCount) s
+answerOf Invalid s = refusalRow (numberOf invalid) s
+answerOf NotAttached s = refusalRow (numberOf notAttached) s
+answerOf BufferTooLong s = refusalRow (numberOf bufferTooLong) s
+answerOf BadInjection s = refusalRow (numberOf badInjection) s
+answerOf FourPending s = refusalRow (numberOf fourPending) s
+answerOf QueueFull s = refusalRow (numberOf queueFull) s
+answerOf RoundsUsedUp s = refusalRow (numberOf roundsUsedUp) s
+answerOf RoomTooSmall s = refusalRow (numberOf roomTooSmall) s
 answerOf Accepted s = answerRow 0 0 0 0 0 0 0 s
 answerOf Idle s = answerRow 0 0 0 0 0 1 0 s
 answerOf (Carried sender id errored age) s = answerRow 0 id age 0 sender 0 (cond errored 1 0) s

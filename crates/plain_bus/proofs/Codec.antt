@@ -8,7 +8,7 @@ use mathlib.Core.Bool.{Bool, true, false, _||_}
 use lib.Dec.{leb, eqb, lit<}
 use lib.ListN.{length}
 use borrow.Author.Tests.{le-leb, leb-true, eqb-true}
-use Rattle.operation.specs.Format.{encode, dataLength, headLength, lengthOf, Typed}
+use Rattle.operation.specs.Format.{encode, dataLength, headLength, lengthOf, TypedOperation}
 use Rattle.operation.specs.Rules.{allAfter, oneOf, maxExtendedId, errorCodes, errorFlags, rules, legal}
 use Rattle.operation.specs.declared.Operation.{Operation}
 use Rattle.operation.specs.declared.Operation.the-variants.{FormatError, Confirm, ArbitrationLost, BusError, Wakeup}
@@ -20,7 +20,7 @@ use Rattle.decoder.proofs.Encoded.{encoded}
 use Rattle.plain_bus.specs.Valid.{ReadsWhole}
 use Rattle.plain_bus.specs.Register.{noneAbove}
 
-pub reads-written : (op : Operation) (payload : List ℕ) → Typed op → legal op ≡ true → length payload ≡ dataLength op
+pub reads-written : (op : Operation) (payload : List ℕ) → TypedOperation op → legal op ≡ true → length payload ≡ dataLength op
     → dataLength op < 65_536 → ReadsWhole op (encode op payload)
 reads-written op payload ty l p small =
     let size : length (encode op payload) ≡ lengthOf op = encode-length op payload l ∙ ap (λ (n : ℕ). headLength op + n) p in

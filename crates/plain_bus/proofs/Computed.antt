@@ -8,10 +8,11 @@ use Rattle.decoder.specs.Stream.{itemsUpTo, itemsOf}
 use Rattle.plain_bus.specs.Held.{eachNode, everyNode}
 use Rattle.plain_bus.specs.Submit.{takeTransmit, configure, setStatus, takeWakeup, answerFormatError, takeItem, takeItems}
 use Rattle.plain_bus.specs.Order.{rank, goesBefore, entriesOf, entriesFrom, better, firstOf, winner}
-use Rattle.plain_bus.specs.Round.{newsFor, without, losers, lostNotices, drops, told, stay, owed, settle, afterRound, age}
+use Rattle.plain_bus.specs.Round.{newsFor, without, losers, lostNotices, told, stay, owed, settle, afterRound, age}
 use Rattle.plain_bus.specs.Calls.{start, submit, wrongInjection, arbitrate, runRound, collect}
 use Rattle.plain_bus.specs.Register.{noneAbove, validRegister, updates, openId, withOff, noteStatus, enterItem, enter, isOpen, remove, closeId, readItem, read}
-use Rattle.plain_bus.specs.Session.{call, calls, answers, keep, followUp, opening, after, run}
+use Rattle.plain_bus.specs.Session.{call, calls, answers}
+use Rattle.plain_bus.specs.Network.{noteUpdate, registerCall, newNetwork, networkAfter, play}
 use Rattle.plain_bus.specs.Examples.{reply, computed, expected, table, W1toW10}
 use Rattle.plain_bus.specs.Cases.{cases, CasesHold, longCases, LongCasesHold}
 
@@ -29,7 +30,7 @@ unfolding rank goesBefore entriesOf entriesFrom better firstOf winner
 order = tt
 
 rounds : Unit {0}
-unfolding newsFor without losers lostNotices drops told stay owed settle afterRound age
+unfolding newsFor without losers lostNotices told stay owed settle afterRound age
 rounds = tt
 
 bus : Unit {0}
@@ -41,7 +42,7 @@ unfolding noneAbove validRegister updates openId withOff noteStatus enterItem en
 register = tt
 
 sessions : Unit {0}
-unfolding codec bus register call calls answers keep followUp opening after run reply computed expected
+unfolding codec bus register call calls answers noteUpdate registerCall newNetwork networkAfter play reply computed expected
 sessions = tt
 
 pub w1-to-w10 : W1toW10

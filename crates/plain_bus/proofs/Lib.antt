@@ -11,8 +11,8 @@ pub mod Owed
 pub mod Tally
 pub mod Steps
 pub mod Outcomes
-pub mod Kept
-pub mod Demand3
+pub mod Preserved
+pub mod Networks
 pub mod Registers
 pub mod Rounds
 pub mod Waiting

@@ -13,7 +13,7 @@ use Rattle.plain_bus.specs.Refusal.{Refusal, notAttached, bufferTooLong,
 use Rattle.plain_bus.specs.Submit.{Step, done, fails, takeItems}
 use Rattle.plain_bus.specs.Order.{Entry, Winner, nobody, wins, winner}
 use Rattle.plain_bus.specs.Round.{Injection, isErrored, winnerId, owed, afterRound, age}
-use Rattle.plain_bus.specs.Calls.{accepted, idle, carried, collected, Outcome, gives, refuses, maxSubmit, taken, submit, wrongInjection, arbitrate, runRound, collect}
+use Rattle.plain_bus.specs.Calls.{accepted, idle, carried, collected, Outcome, gives, refuses, maxSubmit, takenWhole, submit, wrongInjection, arbitrate, runRound, collect}
 use Rattle.plain_bus.specs.Session.{Call, submission, round, collection, call}
 
 pub data Came (b : Bus) : Call → Outcome → Type 0 where
@@ -34,7 +34,7 @@ came b (submission k buffer) =
   where
     go : (t : Bool) → attached b k ≡ t → (u : Bool) (s : Step) → takeItems k (itemsOf buffer) (done b) ≡ s
         → Came b (submission k buffer)
-        (cond (not t) (refuses notAttached b) (cond u (refuses bufferTooLong b) (taken b s)))
+        (cond (not t) (refuses notAttached b) (cond u (refuses bufferTooLong b) (takenWhole b s)))
     go false q u s e = turnedDown notAttached
     go true q true s e = turnedDown bufferTooLong
     go true q false (fails r) e = turnedDown r

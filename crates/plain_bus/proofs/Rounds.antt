@@ -11,7 +11,7 @@ use borrow.Author.Tests.{eq-eqb, ne-eqb, le-leb, lt-leb}
 use Rattle.plain_bus.specs.Held.{Frame, Node, Bus, lastRound, discards, nodeAt, allHaveRoom}
 use Rattle.plain_bus.specs.Refusal.{Refusal, roundsUsedUp}
 use Rattle.plain_bus.specs.Order.{Entry, wins, winner}
-use Rattle.plain_bus.specs.Round.{Injection, isErrored, winnerId, without, losers, drops, stay, owed, settle, afterRound, age}
+use Rattle.plain_bus.specs.Round.{Injection, isErrored, winnerId, without, losers, stay, owed, settle, afterRound, age}
 use Rattle.plain_bus.specs.Calls.{refused, idle, carried, answerNumber, Outcome, gives, refuses, wrongInjection, arbitrate, runRound}
 use Rattle.plain_bus.specs.Valid.{Valid}
 use Rattle.plain_bus.specs.Session.{Call, round, call}
@@ -113,19 +113,19 @@ module _ (b : Bus) (e : Injection) (w : Entry) where
   -- a node that discards has nothing pending any more, the sender's other frames included
   pub discarded : (j : ℕ) → j < length (b .nodes) → discards (nodeAt b j) ≡ true
       → nodeAt (afterRound e w b) j .pending ≡ []
-  unfolding stay drops
+  unfolding stay
   discarded j h t = round-pending j h ∙ rw t
 
   -- a sender that buffers keeps all its pending frames but the winner
   pub winner-removed : w .owner < length (b .nodes) → discards (nodeAt b (w .owner)) ≡ false
       → nodeAt (afterRound e w b) (w .owner) .pending ≡ without (w .position) (nodeAt b (w .owner) .pending)
-  unfolding stay drops losers
+  unfolding stay losers
   winner-removed h t = round-pending (w .owner) h ∙ rw (t, eq-eqb (w .owner) (w .owner) refl)
 
   -- another node that buffers keeps them all, with their acceptance rounds
   pub losers-wait : (j : ℕ) → j < length (b .nodes) → (j ≡ w .owner → ⊥) → discards (nodeAt b j) ≡ false
       → nodeAt (afterRound e w b) j .pending ≡ nodeAt b j .pending
-  unfolding stay drops losers
+  unfolding stay losers
   losers-wait j h n t = round-pending j h ∙ rw (t, ne-eqb j (w .owner) n)
 
 -- the list without one of its frames is one shorter

@@ -15,10 +15,10 @@ use Rattle.operation.proofs.Tests.{false-is-true}
 use Rattle.decoder.specs.Stream.{Item, operation, fault, itemsOf}
 use Rattle.operation.specs.Kinds.{idOf}
 use Rattle.plain_bus.specs.Closing.{closes}
-use Rattle.plain_bus.specs.Held.{Frame, Node, maxPending, busOff, isOff, withStatus, withBehaviour, withRates, withPending, withQueue, enqueue}
+use Rattle.plain_bus.specs.Held.{Frame, Node, maxPending, busOff, isOff, discards, withStatus, withBehaviour, withRates, withPending, withQueue, enqueue}
 use Rattle.plain_bus.specs.Submit.{accept, cleared, configure, setStatus}
 use Rattle.plain_bus.specs.Order.{Entry}
-use Rattle.plain_bus.specs.Round.{winnerId, without, losers, drops, told, stay, owed, settle}
+use Rattle.plain_bus.specs.Round.{winnerId, without, losers, told, stay, owed, settle}
 use Rattle.plain_bus.specs.Valid.{ValidFrames, ValidNode, Whole}
 use Rattle.plain_bus.specs.Register.{Register, maxOpen, withOpened, validRegister, Update, updated, updates, openId, withOff, noteStatus, isOpen, remove, closeId, readItem, read}
 use Rattle.plain_bus.specs.Session.{count, pendingIds, closingIds}
@@ -157,7 +157,7 @@ round-splits : (p : ℕ → Bool) (w : Entry) (j : ℕ) (d : Node) → (eqb j (w
     → count p (pendingIds (d .pending))
     ≡ count p (pendingIds (stay w j d)) + count p (cond (eqb j (w .owner)) (winnerId w ∷ []) [] ++ pendingIds (told w j d))
 unfolding stay told losers pendingIds count
-round-splits p w j d own = go (eqb j (w .owner)) (drops w j d) own
+round-splits p w j d own = go (eqb j (w .owner)) (discards d) own
   where
     removed : Own w d
         → count p (pendingIds (d .pending)) ≡ count p (winnerId w ∷ []) + count p (pendingIds (without (w .position) (d .pending)))

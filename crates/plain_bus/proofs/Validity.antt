@@ -12,10 +12,10 @@ use Rattle.operation.specs.Rules.{oneOf, settingRule, rules, legal, statuses, b
 use Rattle.operation.proofs.Tests.{false-is-true, passed}
 use Rattle.operation.specs.declared.Operation.the-variants.{Configuration, Status}
 use Rattle.decoder.proofs.Found.{found}
-use Rattle.plain_bus.specs.Held.{Frame, Node, Bus, maxPending, queueCapacity, busOff, isOff, withStatus, withBehaviour, withRates, withPending, withQueue, nodeAt, enqueue}
+use Rattle.plain_bus.specs.Held.{Frame, Node, Bus, maxPending, queueCapacity, busOff, isOff, discards, withStatus, withBehaviour, withRates, withPending, withQueue, nodeAt, enqueue}
 use Rattle.plain_bus.specs.Submit.{cleared, configure, setStatus}
 use Rattle.plain_bus.specs.Order.{Entry, Pending}
-use Rattle.plain_bus.specs.Round.{without, losers, drops, told, stay, owed, settle}
+use Rattle.plain_bus.specs.Round.{without, losers, told, stay, owed, settle}
 use Rattle.plain_bus.specs.Register.{Register, Update}
 use Rattle.plain_bus.specs.Valid.{ValidFrame, ValidFrames, NonZero, ValidNode, Valid}
 use Rattle.plain_bus.proofs.Changes.{Change, still, ignored, joined, configured, statusSet, answered, settled, collected}
@@ -207,7 +207,7 @@ losers-valid now d w j v = go (eqb j (w .owner))
 -- the frames that stay pending after a round, and those that are told
 stay-valid : (now : ℕ) (d : Node) (w : Entry) (j : ℕ) → ValidNode now d → Holds now d (stay w j d)
 unfolding stay
-stay-valid now d w j v = go (drops w j d)
+stay-valid now d w j v = go (discards d)
   where
     go : (t : Bool) → Holds now d (cond t [] (losers w j d))
     go true = holds-none now d
@@ -215,7 +215,7 @@ stay-valid now d w j v = go (drops w j d)
 
 pub told-valid : (now : ℕ) (d : Node) (w : Entry) (j : ℕ) → ValidNode now d → ValidFrames 0 now (told w j d)
 unfolding told
-told-valid now d w j v = go (drops w j d)
+told-valid now d w j v = go (discards d)
   where
     go : (t : Bool) → ValidFrames 0 now (cond t (losers w j d) [])
     go true = losers-valid now d w j v .frames

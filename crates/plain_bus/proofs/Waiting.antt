@@ -20,7 +20,7 @@ use Rattle.plain_bus.proofs.Whole.{ValidItems, items-valid}
 use Rattle.plain_bus.proofs.Changes.{Change, still, ignored, joined, configured, statusSet, answered, settled, collected}
 use Rattle.plain_bus.proofs.Steps.{Stepped, bus-of, never, fails-stay, turnsOff, item-step}
 use Rattle.plain_bus.proofs.Outcomes.{Came, turnedDown, took, handedOver, came}
-use Rattle.plain_bus.proofs.Kept.{by-number}
+use Rattle.plain_bus.proofs.Preserved.{by-number}
 
 -- all of these were accepted at the round number `now`
 abbrev pub AcceptedAt : ℕ → List Frame → Type 0

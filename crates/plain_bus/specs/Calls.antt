@@ -65,15 +65,15 @@ start count = cond (leb 2 count && leb count 8) (gives accepted (newBus count)) 
 abbrev pub maxSubmit : ℕ
 maxSubmit = 4_086
 
-abbrev pub taken : Bus → Step → Outcome
-taken b (done after) = gives accepted after
-taken b (fails r) = refuses r b
+abbrev pub takenWhole : Bus → Step → Outcome
+takenWhole b (done after) = gives accepted after
+takenWhole b (fails r) = refuses r b
 
 unfoldable pub submit : Bus → ℕ → List ℕ → Outcome
 submit b k buffer =
     cond (not (attached b k)) (refuses notAttached b)
     (cond (ltb maxSubmit (length buffer)) (refuses bufferTooLong b)
-    (taken b (takeItems k (itemsOf buffer) (done b))))
+    (takenWhole b (takeItems k (itemsOf buffer) (done b))))
 
 -- ---- round: 6, then idle, then 9, then 10
 

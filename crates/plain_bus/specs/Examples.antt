@@ -17,7 +17,8 @@ use Rattle.plain_bus.specs.Refusal.{fourPending}
 use Rattle.plain_bus.specs.Round.{noError}
 use Rattle.plain_bus.specs.Calls.{Answer, refused, accepted, carried, answerNumber, start}
 use Rattle.plain_bus.specs.Register.{Register, Update, updateNumber, registerAfter, enter, read}
-use Rattle.plain_bus.specs.Session.{Call, submission, round, calls, answers, Registers, opening, run}
+use Rattle.plain_bus.specs.Session.{Call, submission, round, calls, answers}
+use Rattle.plain_bus.specs.Network.{NodeRegisters, newNetwork, play}
 
 -- what a line asks: the bytes of an operation; whether it meets the content rules; what stands at the front of some bytes;
 -- of a session of so many nodes, how it ends, or the numbers of its answers, or the settings at its end, or what the registers
@@ -47,7 +48,7 @@ atEnd given b = ends given (map (λ (d : Node). length (d .pending)) (b .nodes))
 abbrev pub settingsOf : Node → List ℕ
 settingsOf d = d .status ∷ d .behaviour ∷ d .rates
 
-abbrev pub inRegisters : Registers → Reply
+abbrev pub inRegisters : NodeRegisters → Reply
 inRegisters rs = opens (rs .answers) (map (λ (r : Register). r .opened) (rs .each))
 
 abbrev pub inRegister : Register → Update → Reply
@@ -60,7 +61,7 @@ reply (frontOf s) = stands (front s)
 reply (session n cs) = atEnd (answers cs (start n .bus)) (calls cs (start n .bus))
 reply (numbered n cs) = numbers (map answerNumber (start n .answer ∷ answers cs (start n .bus)))
 reply (settled n cs) = settings (map settingsOf (calls cs (start n .bus) .nodes))
-reply (registered n cs) = inRegisters (run cs (opening (start n .bus)) .registers)
+reply (registered n cs) = inRegisters (play cs (newNetwork (start n .bus)) .registers)
 reply (entering r s) = inRegister r (enter r s)
 reply (reading r s) = inRegister r (read r s)
 

@@ -8,5 +8,6 @@ pub mod Calls
 pub mod Valid
 pub mod Register
 pub mod Session
+pub mod Network
 pub mod Examples
 pub mod Cases

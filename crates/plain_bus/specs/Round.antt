@@ -57,16 +57,12 @@ unfoldable pub lostNotices : List Frame → List ℕ
 lostNotices [] = []
 lostNotices (f ∷ fs) = encode (ArbitrationLost (idOf (f .op))) [] ++ lostNotices fs
 
--- whether node j's losers are removed: where it is set to DISCARD_AND_NOTIFY, the sender's other frames too
-unfoldable pub drops : Entry → ℕ → Node → Bool
-drops w j d = discards d
-
--- the losers that are removed and told, and those that stay pending
+-- where a node is set to DISCARD_AND_NOTIFY, the sender included, its losers are removed and told; else they stay pending
 unfoldable pub told : Entry → ℕ → Node → List Frame
-told w j d = cond (drops w j d) (losers w j d) []
+told w j d = cond (discards d) (losers w j d) []
 
 unfoldable pub stay : Entry → ℕ → Node → List Frame
-stay w j d = cond (drops w j d) [] (losers w j d)
+stay w j d = cond (discards d) [] (losers w j d)
 
 -- all that a round adds to node j's queue
 unfoldable pub owed : Injection → Entry → ℕ → Node → List ℕ

@@ -58,7 +58,7 @@ module _ (s : State) (a : List Slot) (p q : List ℕ) (k : ℕ) (buffer : List �
         → record { outcome = QueueFull; memory = held s (setBlock a at four) p q } ≡ ended (submitted (held s a p q) k buffer)
     queue-full h l v = rw (decided h l, v, laid-again a at e)
 
-  pub taken : {m : Memory} → k < s .count → length buffer ≤ maxSubmit → checkItems k (itemsOf buffer) s ≡ verdict.Goes
+  pub all-taken : {m : Memory} → k < s .count → length buffer ≤ maxSubmit → checkItems k (itemsOf buffer) s ≡ verdict.Goes
       → m ≡ memoryAfterAll k (itemsOf buffer) (held s a p q)
       → record { outcome = Accepted; memory = m } ≡ ended (submitted (held s a p q) k buffer)
-  taken h l v e = rw (decided h l, v, e)
+  all-taken h l v e = rw (decided h l, v, e)

@@ -1,5 +1,5 @@
 -- Each verdict is the plain register's answer; a register that is handed on takes its flat form.
-use Rattle.open_frames.specs.Kept.{answered}
+use Rattle.open_frames.specs.Record.{answered}
 use Rattle.open_frames.specs.Steps.{given}
 use Rattle.open_frames.specs.declared.Register.{Register}
 use Rattle.open_frames.specs.declared.Step.{Step}

@@ -1,6 +1,6 @@
 -- Each call by its own step.
 use Rattle.decoder.specs.Stream.{operation}
-use Rattle.open_frames.specs.Kept.{openIn}
+use Rattle.open_frames.specs.Record.{openIn}
 use Rattle.open_frames.specs.Steps.{itemStep}
 use Rattle.open_frames.specs.declared.Call.{Call}
 use borrow.Author.Needs.{needs}

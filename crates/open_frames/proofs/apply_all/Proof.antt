@@ -2,7 +2,7 @@
 use Prim.Native.Nat.{_≤_, _-_}
 use Rattle.decoder.specs.Stream.{itemsOf}
 use Rattle.open_frames.proofs.Turns.{nearer, turn-of, refused, goes-on}
-use Rattle.open_frames.specs.Kept.{openIn}
+use Rattle.open_frames.specs.Record.{openIn}
 use Rattle.open_frames.specs.Steps.{itemStep, stepOf}
 use Rattle.plain_bus.specs.Register.{updated, updates}
 use borrow.Author.Needs.{needs}

@@ -1,7 +1,7 @@
 -- Where no place holds the ID, none is open; else the first one is taken out.
 use Rattle.open_frames.proofs.Changes.{close-none, closes}
 use Rattle.open_frames.proofs.Opened.{array}
-use Rattle.open_frames.specs.Kept.{openIn}
+use Rattle.open_frames.specs.Record.{openIn}
 use Rattle.open_frames.specs.Steps.{withoutPlace}
 use Rattle.plain_bus.specs.Register.{updated}
 use borrow.Author.Needs.{needs}

@@ -1,6 +1,6 @@
 -- A Transmit opens its ID, a Status is noted, and all else changes nothing.
 use Rattle.open_frames.proofs.Turns.{enter-kind}
-use Rattle.open_frames.specs.Kept.{openIn}
+use Rattle.open_frames.specs.Record.{openIn}
 use Rattle.open_frames.specs.Steps.{stepOf}
 use Rattle.plain_bus.specs.Register.{updated, enterItem}
 use borrow.Author.Needs.{needs}

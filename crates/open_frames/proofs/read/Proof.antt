@@ -1,6 +1,6 @@
 -- Number 3 for a register that is not valid; else what the items make of it.
 use Rattle.open_frames.proofs.Opened.{array, valid-within}
-use Rattle.open_frames.specs.Kept.{answered}
+use Rattle.open_frames.specs.Record.{answered}
 use Rattle.plain_bus.specs.Register.{read}
 use borrow.Author.Needs.{needs}
 use borrow.Author.Tests.{not-true, not-false}

@@ -1,6 +1,6 @@
 -- Each refusal by the test that found it, and else what was carried out.
 use Prim.Native.Nat.{_*_}
-use Rattle.submission.proofs.Submits.{first-slot-of, laid-again, not-attached, too-long, four-pending, queue-full, taken}
+use Rattle.submission.proofs.Submits.{first-slot-of, laid-again, not-attached, too-long, four-pending, queue-full, all-taken}
 use borrow.Author.Needs.{needs}
 use denote.Ref.{now}
 use mathlib.Core.Path.{sym, _∙_}
@@ -54,7 +54,7 @@ returns-5 c =
     let f = t .before .before .before in
     let b = f .before .before .before .before in
     let n = f .first-slot .ensures .0 ∙ first-slot-of (b .args .node) (omega arith) in
-    (λ a e. rw (r .0 .0, r .0 .1) (taken (b .args .s) a (now (b .args .payload)) (now (b .args .queues)) (b .args .node) (now (b .args .buffer)) (t .before .if1 .left) (t .if2 .left) (sym (d .check-buffer .ensures) ∙ g .enum-told3 .given .1) (rw n (r .1 a ∙ rw (laid-again a (4 * b .args .node) (rw (r .0 .1, n) at e))))), (r .0 .1 ∙ f .first-slot .ensures .0, rw (r .0 .1) (f .first-slot .ensures .1)))
+    (λ a e. rw (r .0 .0, r .0 .1) (all-taken (b .args .s) a (now (b .args .payload)) (now (b .args .queues)) (b .args .node) (now (b .args .buffer)) (t .before .if1 .left) (t .if2 .left) (sym (d .check-buffer .ensures) ∙ g .enum-told3 .given .1) (rw n (r .1 a ∙ rw (laid-again a (4 * b .args .node) (rw (r .0 .1, n) at e))))), (r .0 .1 ∙ f .first-slot .ensures .0, rw (r .0 .1) (f .first-slot .ensures .1)))
 
 pub submit-spec : {M : Type 1} → statement M
 submit-spec =

@@ -1,4 +1,4 @@
--- Demand 3 for the plain bus: after any list of calls, what a node's register has open is what is pending or waiting to be
+-- The plain bus with its registers: after any list of calls, what a node's register has open is what is pending or waiting to be
 -- closed, and every register call is done. By the tally of each node with its register, kept by every step.
 -- Assumes nothing.
 use mathlib.Core.Path.{_≡_, refl, sym, ap, _∙_, subst}
@@ -13,15 +13,16 @@ use Rattle.decoder.specs.Stream.{Item, itemsOf}
 use Rattle.plain_bus.specs.Held.{Bus, newNode, nodeAt}
 use Rattle.plain_bus.specs.Submit.{Step, done, fails, takeItem, takeItems}
 use Rattle.plain_bus.specs.Round.{afterRound}
-use Rattle.plain_bus.specs.Calls.{Outcome, start}
+use Rattle.plain_bus.specs.Calls.{Outcome}
 use Rattle.plain_bus.specs.Register.{Register, newRegister, Update, updated, rejected, updates, enterItem, enter, read}
-use Rattle.plain_bus.specs.Session.{Call, submission, round, collection, call, calls, Registers, keep, followUp, World, opening, after, run, count, pendingIds, closingIds, allZero, Demand3}
+use Rattle.plain_bus.specs.Session.{Call, submission, round, collection, call, calls, count, pendingIds, closingIds, allZero}
+use Rattle.plain_bus.specs.Network.{NodeRegisters, noteUpdate, registerCall, Network, newNetwork, networkAfter, play}
 use Rattle.plain_bus.proofs.Whole.{ValidItems, items-nil, items-valid}
 use Rattle.plain_bus.proofs.Winner.{winner-pending}
 use Rattle.plain_bus.proofs.Tally.{Tally, register-valid, change-tally}
 use Rattle.plain_bus.proofs.Steps.{Stepped, bus-of, never, fails-stay, turnsOff, item-step, collect-step, round-step}
 use Rattle.plain_bus.proofs.Outcomes.{Came, turnedDown, idled, took, carriedOut, handedOver, came}
-use Rattle.plain_bus.proofs.Kept.{by-number, ValidWhole, step-whole, Started, started, start-node, start-valid}
+use Rattle.plain_bus.proofs.Preserved.{by-number, ValidWhole, step-whole, Started, start-node, start-valid}
 
 -- the bus is sound, and each node tallies with its register
 pub record Agree (b : Bus) (rs : List Register) : Type 0 where
@@ -93,20 +94,20 @@ items-agree k (i ∷ is) b b′ rs v h a e = go (takeItem b k i) refl e (λ c qs
 
 -- ---- a call with its register call
 
-pub record Good (w : World) : Type 0 where
+pub record Good (w : Network) : Type 0 where
   pub agree : Agree (w .bus) (w .registers .each)
   pub allDone : allZero (w .registers .answers) ≡ true
 
-keep-good : (b : Bus) (rs : Registers) (k : ℕ) (u : Update) → allZero (rs .answers) ≡ true → Done b (rs .each) k u
-    → Good (record { bus = b; registers = keep rs k u })
-unfolding keep allZero
-keep-good b rs k (updated x) g r =
+update-good : (b : Bus) (rs : NodeRegisters) (k : ℕ) (u : Update) → allZero (rs .answers) ≡ true → Done b (rs .each) k u
+    → Good (record { bus = b; registers = noteUpdate rs k u })
+unfolding noteUpdate allZero
+update-good b rs k (updated x) g r =
     let same : x ≡ r .register = cc (r .result) in
     record { agree = rw same (r .agree); allDone = g }
-keep-good b rs k (rejected x) g r = let z : _≡_ {A = ℕ} 0 1 = cc (r .result) in absurd (omega arith)
+update-good b rs k (rejected x) g r = let z : _≡_ {A = ℕ} 0 1 = cc (r .result) in absurd (omega arith)
 
-outcome-good : (w : World) (c : Call) (o : Outcome) → Came (w .bus) c o → Good w → Good (after w c o)
-unfolding after followUp enter
+outcome-good : (w : Network) (c : Call) (o : Outcome) → Came (w .bus) c o → Good w → Good (networkAfter w c o)
+unfolding networkAfter registerCall enter
 outcome-good w (submission k buffer) o (turnedDown r) g = g
 outcome-good w (round e) o (turnedDown r) g = g
 outcome-good w (collection k room) o (turnedDown r) g = g
@@ -114,7 +115,7 @@ outcome-good w c o (idled e q) g = g
 outcome-good w c o (took k buffer b′ h e) g =
     let r = items-agree k (itemsOf buffer) (w .bus) b′ (w .registers .each) (items-valid buffer) h (g .agree) e in
     let v = register-valid (g .agree .bus .valid .each k h) (g .agree .each k h) in
-    keep-good b′ (w .registers) k _ (g .allDone)
+    update-good b′ (w .registers) k _ (g .allDone)
     (record { register = r .register; result = rw v (r .result); agree = r .agree })
 outcome-good w c o (carriedOut e v l q room last) g =
     let b = w .bus in
@@ -126,19 +127,19 @@ outcome-good w c o (carriedOut e v l q room last) g =
 outcome-good w c o (handedOver k room h) g =
     let b = w .bus in
     let reads : Register → Update = λ x. read x (nodeAt (w .bus) k .queue) in
-    keep-good _ (w .registers) k _ (g .allDone)
+    update-good _ (w .registers) k _ (g .allDone)
     (step-agrees b _ k (b .round) false reads (w .registers .each) (collect-step b k h) h (g .agree))
 
-pub run-good : (cs : List Call) (w : World) → Good w → Good (run cs w)
-unfolding run
-run-good [] w g = g
-run-good (c ∷ cs) w g = run-good cs _ (outcome-good w c (call (w .bus) c) (came (w .bus) c) g)
+pub play-good : (cs : List Call) (w : Network) → Good w → Good (play cs w)
+unfolding play
+play-good [] w g = g
+play-good (c ∷ cs) w g = play-good cs _ (outcome-good w c (call (w .bus) c) (came (w .bus) c) g)
 
 -- the bus with its registers goes as the bus alone
-pub run-bus : (cs : List Call) (w : World) → run cs w .bus ≡ calls cs (w .bus)
-unfolding run calls after
-run-bus [] w = refl
-run-bus (c ∷ cs) w = run-bus cs (after w c (call (w .bus) c))
+pub play-bus : (cs : List Call) (w : Network) → play cs w .bus ≡ calls cs (w .bus)
+unfolding play calls networkAfter
+play-bus [] w = refl
+play-bus (c ∷ cs) w = play-bus cs (networkAfter w c (call (w .bus) c))
 
 -- ---- the start, and the claim
 
@@ -146,9 +147,9 @@ new-tally : Tally newNode newRegister
 unfolding count pendingIds closingIds
 new-tally = record { counts = λ p. rw items-nil; flag = refl; shut = λ q. refl }
 
-pub opening-good : {n : ℕ} (b : Bus) → Started n b → Good (opening b)
-unfolding opening allZero
-opening-good b s =
+pub start-good : {n : ℕ} (b : Bus) → Started n b → Good (newNetwork b)
+unfolding newNetwork allZero
+start-good b s =
     record {
       agree =
           record {
@@ -158,9 +159,3 @@ opening-good b s =
           };
       allDone = refl;
     }
-
-pub demand3 : Demand3
-demand3 n e cs =
-    let b = start n .bus in
-    let g : Good (run cs (opening (start n .bus))) = run-good cs (opening b) (opening-good b (started n e)) in
-    record { allDone = g .allDone; counts = λ k h id. g .agree .each k h .counts (λ x. eqb x id) }

@@ -18,8 +18,8 @@ openIn r = record {
 }
 
 -- the record of a register: 0 past the open IDs
-unfoldable pub flat : plain.Register → Register
-flat r = record {
+unfoldable pub recordOf : plain.Register → Register
+recordOf r = record {
   ids = r .opened ++ replicate (plain.maxOpen - length (r .opened)) 0;
   count = length (r .opened);
   off = cond (r .off) 1 0;
@@ -27,5 +27,5 @@ flat r = record {
 
 -- a refusal hands the register back as it was
 abbrev pub answered : Register → plain.Update → RegisterAnswer
-answered r (plain.updated x) = record { number = 0; register = flat x }
+answered r (plain.updated x) = record { number = 0; register = recordOf x }
 answered r (plain.rejected x) = record { number = registerNumber x; register = r }
