@@ -34,6 +34,7 @@ use Rattle.claims.specs.Demands.{Call, leftBy, memoryOf, plainCall, Pass
 use Rattle.claims.proofs.Answers.{left-memory, left-number, done-number}
 use Rattle.claims.proofs.Calls.{same-answer, follows}
 use Rattle.claims.proofs.Pending.{call-known}
+use Rattle.claims.proofs.Trips.{flat-written-reads, flat-read-writes}
 
 -- ---- each call
 
@@ -125,6 +126,8 @@ demand2 = record {
   writtenReads = written-reads;
   readWrites = read-writes;
   readsThrough = reads-through;
+  flatWrittenReads = flat-written-reads;
+  flatReadWrites = flat-read-writes;
   byRules = by-rules;
   round = λ m present code detector p.
       let e = injectionFrom present code detector in

@@ -6,3 +6,8 @@ pub mod Pending
 pub mod Demand1
 pub mod Demand2
 pub mod Demand3
+pub mod Named
+pub mod Trips
+pub mod Machine
+pub mod Entered
+pub mod Exported

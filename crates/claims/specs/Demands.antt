@@ -39,6 +39,7 @@ use Rattle.bus.specs.Left.{Left, left, leaves}
 use Rattle.open_frames.specs.Record.{openIn, recordOf, answered}
 use Rattle.open_frames.specs.declared.Register.{Register}
 use Rattle.open_frames.specs.declared.RegisterAnswer.{RegisterAnswer}
+use Rattle.claims.specs.Trips.{FlatWrittenReads, FlatReadWrites}
 
 -- ---- the calls after a start
 
@@ -216,6 +217,9 @@ pub record Demand2 : Type 0 where
   pub writtenReads : WrittenReads
   pub readWrites : ReadWrites
   pub readsThrough : (s : List ℕ) → ReadsThrough s
+  -- the same of the records of the calls for C
+  pub flatWrittenReads : FlatWrittenReads
+  pub flatReadWrites : FlatReadWrites
   -- every call, and every round that is not refused
   pub byRules : (m : Memory) (c : Call) → Passes m → ByRules m c
   pub round : (m : Memory) (present code detector : ℕ) → Passes m

@@ -1,1 +1,3 @@
 pub mod Demands
+pub mod Trips
+pub mod Exported

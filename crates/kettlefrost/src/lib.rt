@@ -1,5 +1,5 @@
 // The calls for C and Rust: the proved calls over records of plain numbers and lent buffers.
-mod register;
+pub mod register;
 
 ghost use mathlib.Core.Path.{_≡_};
 ghost use lib.ListN.{length};
@@ -56,7 +56,7 @@ pub struct WriteAnswer {
 }
 
 // The operation that a record names.
-enum Named {
+pub enum Named {
     Known(Operation),
     Unknown,
 }
