@@ -18,7 +18,8 @@ use Rattle.outcome.specs.Outcome.{refusalIs, outcomeIs, refusalRow, answerOf}
 use Rattle.outcome.specs.declared.Outcome.{Outcome}
 use Rattle.outcome.specs.declared.Outcome.the-variants.{WrongMemory, BadNodeCount, Invalid, NotAttached, BufferTooLong, BadInjection, FourPending, QueueFull, RoundsUsedUp, RoomTooSmall, Accepted, Idle, Carried, Collected}
 use Rattle.bus.specs.Left.{leaves}
-use Rattle.claims.specs.Demands.{Call, submits, arbitrates, collects, leftBy, memoryOf, plainCall}
+use Rattle.claims.specs.Demands.{Call, submits, arbitrates, collects, plainCall}
+use Rattle.claims.proofs.Model.{leftBy, memoryOf}
 
 -- ---- the state
 
@@ -87,7 +88,7 @@ done-number idle = refl
 done-number (carried sender id errored age) = refl
 done-number (collected bytes) = refl
 
-answer-number : (a : Answer) (s : State) → answerOf (outcomeIs (answers a)) s .number ≡ answerNumber a
+pub answer-number : (a : Answer) (s : State) → answerOf (outcomeIs (answers a)) s .number ≡ answerNumber a
 answer-number (refused r) s = rw (refusal-row r s)
 answer-number accepted s = refl
 answer-number idle s = refl

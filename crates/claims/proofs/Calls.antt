@@ -11,12 +11,14 @@ use Rattle.plain_bus.specs.Calls.{answerNumber, bytesGiven, Outcome}
 use Rattle.plain_bus.specs.Session as session
 use Rattle.plain_bus.proofs.Outcomes.{Came, turnedDown, idled, took, carriedOut, came}
 use Rattle.bus_state.specs.Memory.{Memory}
-use Rattle.bus_model.specs.Calls.{collectIn}
+use Rattle.bus_model.specs.Calls.{answers, collectIn}
 use Rattle.bus_model.specs.Refines.{Refines}
 use Rattle.bus_model.specs.Session.{callIn, ByteCall}
 use Rattle.bus_model.proofs.Session.{Follows, call-refines}
+use Rattle.outcome.specs.Outcome.{outcomeIs, answerOf}
 use Rattle.arbitration.specs.Injections.{injectionFrom}
-use Rattle.claims.specs.Demands.{Call, submits, arbitrates, collects, leftBy, givenBy, memoryOf, plainCall, SameAnswer}
+use Rattle.claims.specs.Demands.{Call, submits, arbitrates, collects, plainCall}
+use Rattle.claims.proofs.Model.{leftBy, givenBy, memoryOf}
 use Rattle.claims.proofs.Answers.{left-memory, left-call, left-number, left-answer, front-given}
 
 -- a submitted buffer holds bytes
@@ -57,11 +59,11 @@ given-same {m} {b} f (collects node buffer) =
     let e = refines f (collects node buffer) .answer in
     rw e (front-given (session.call b (session.collection node (length buffer)) .answer) (r .memory .state) buffer)
 
-pub same-answer : {m : Memory} {b : Bus} → Follows m b → (c : Call) → SameAnswer m c (session.call b (plainCall c) .answer)
-same-answer {m} {b} f c = record {
-  answer = rw (left-call m c) (left-answer (callIn m (plainCall c)) (session.call b (plainCall c) .answer) (refines f c .answer));
-  bytes = given-same f c;
-}
+-- the answer but for its state is the plain bus's
+pub same-answer : {m : Memory} {b : Bus} → Follows m b → (c : Call)
+    → leftBy m c .answer ≡ answerOf (outcomeIs (answers (session.call b (plainCall c) .answer))) (leftBy m c .answer .state)
+same-answer {m} {b} f c =
+    rw (left-call m c) (left-answer (callIn m (plainCall c)) (session.call b (plainCall c) .answer) (refines f c .answer))
 
 pub follows : {m : Memory} {b : Bus} → Follows m b → (c : Call)
     → Follows (memoryOf (leftBy m c)) (session.call b (plainCall c) .bus)

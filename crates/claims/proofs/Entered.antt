@@ -96,6 +96,23 @@ module _ {M : Type 1} (𝓤 : URA M) (H : Heap 𝓤) (A : Atoms 𝓤) (W : Given
       use2 W (later ((‵ (R .own y vs) ⊛ ‵ (flft κ q)) ⊛ raw (fact 𝓤 (TypedSlots ys)))) sees $ await ! tt $ split ! $ move ! (1 ∷ []) $ heard ! (TypedSlots ys) (λ h.
       split ! $ at-once ! $ says ! (λ ps qs. memory-typed s us ys ps qs is h) $ move ! (1 ∷ 4 ∷ []) $ join ! $ frame ! $ fjoin ! $ move ! (1 ∷ 0 ∷ []) $ fjoin ! $ done !))
 
+-- the same of the parameters as they come: the slots behind a `&mut`, and behind a `&`
+module _ {M : Type 1} (𝓤 : URA M) (H : Heap 𝓤) (A : Atoms 𝓤) (W : Given 𝓤 H A) (ℓ : Lifetime) (κ : Lft) (q : Share) (ts : SProp 𝓤)
+    (Rs : List RattleType) where
+  pub slots-mut : (a : Denots (St.the-row ∷ MutSlice ℓ κ T.the-row ∷ Rs)) (vss : Valss (St.the-row ∷ MutSlice ℓ κ T.the-row ∷ Rs))
+      → let entry = sep 𝓤 (sep 𝓤 (A .lft κ q) ts) (sem 𝓤 H A (owns (St.the-row ∷ MutSlice ℓ κ T.the-row ∷ Rs) a vss)) in
+      ent 𝓤 entry (H .⇛ (sep 𝓤 entry (fact 𝓤 (OfTypes (a .0) (now (a .1 .0))))))
+  slots-mut a vss =
+      state-and-slots 𝓤 H A W (MutSlice ℓ κ T.the-row) κ q ts Rs (a .0) (a .1 .0) (a .1 .1) (vss .0) (vss .1 .0) (vss .1 .1) (now (a .1 .0))
+      (sees-mut 𝓤 H A W ℓ κ q (a .1 .0) (vss .1 .0))
+
+  pub slots-shr : (a : Denots (St.the-row ∷ ShrSlice ℓ κ T.the-row ∷ Rs)) (vss : Valss (St.the-row ∷ ShrSlice ℓ κ T.the-row ∷ Rs))
+      → let entry = sep 𝓤 (sep 𝓤 (A .lft κ q) ts) (sem 𝓤 H A (owns (St.the-row ∷ ShrSlice ℓ κ T.the-row ∷ Rs) a vss)) in
+      ent 𝓤 entry (H .⇛ (sep 𝓤 entry (fact 𝓤 (OfTypes (a .0) (now (a .1 .0))))))
+  slots-shr a vss =
+      state-and-slots 𝓤 H A W (ShrSlice ℓ κ T.the-row) κ q ts Rs (a .0) (a .1 .0) (a .1 .1) (vss .0) (vss .1 .0) (vss .1 .1) (now (a .1 .0))
+      (sees-shr 𝓤 H A W ℓ κ q (a .1 .0) (vss .1 .0))
+
 module _ {M : Type 1} (𝓤 : URA M) (H : Heap 𝓤) (A : Atoms 𝓤) (W : Given 𝓤 H A) (ℓ : Lifetime) (κ : Lft) (q : Share) (x : RefT (List ℕ)) (vs : List Val) where
   sees-bytes : ent 𝓤 (sep 𝓤 (sem 𝓤 H A (ShrSlice ℓ κ u8 .own x vs)) (A .lft κ q))
       (H .⇛ (sep 𝓤 (sep 𝓤 (sem 𝓤 H A (ShrSlice ℓ κ u8 .own x vs)) (A .lft κ q)) (fact 𝓤 (Bytes (now x)))))

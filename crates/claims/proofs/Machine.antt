@@ -24,7 +24,7 @@ use Rattle.bus_state.proofs.NodeState as N
 use Rattle.bus_state.proofs.State as St
 use Rattle.kettlefrost.specs.declared.FlatOperation.{FlatOperation}
 use Rattle.kettlefrost.proofs.FlatOperation as F
-use Rattle.claims.specs.Trips.{FlatTyped}
+use Rattle.claims.proofs.Named.{TypedFlat}
 use Rattle.bus_model.specs.Calls.{lentWell}
 use Rattle.bus_model.specs.Refines.{TypedSlot, TypedMemory}
 
@@ -88,7 +88,7 @@ memory-typed s vs ys ps qs g t e =
 
 -- ---- an operation's record
 
-pub flat-typed : (f : FlatOperation) (vs : List Val) → Is F.the-row f vs → FlatTyped f
+pub flat-typed : (f : FlatOperation) (vs : List Val) → Is F.the-row f vs → TypedFlat f
 flat-typed f vs g =
     let p = g .1 .1 .1 in
     let q = p .1 .1 .1 in

@@ -1,7 +1,7 @@
 -- What a flat record names is the operation that it was made of, and what a record names is made of it again but for fields that its
 -- kind does not have.
 -- Assumes nothing.
-use Prim.Native.Nat.{ℕ}
+use Prim.Native.Nat.{ℕ, _<_, _^_}
 use mathlib.Core.Path.{_≡_, refl, sym, ap, _∙_, subst}
 use mathlib.Core.Bool.{Bool, true, false, cond}
 use native.Mathlib.Omega.{arith}
@@ -14,20 +14,17 @@ use Rattle.decoder.specs.Front.{Kind, formatError, can, fd, xl, confirm, arbitr
 use Rattle.kettlefrost.specs.Flat.{flatRow, flat, byKind, named}
 use Rattle.kettlefrost.specs.declared.FlatOperation.{FlatOperation}
 use Rattle.kettlefrost.specs.declared.Named.the-variants.{Known, Unknown}
-use Rattle.claims.specs.Trips.{FlatTyped, cleared, clear}
+use Rattle.claims.specs.RoundTrip.{cleared, clear}
 
-pub named-flat : (op : Operation) → named (flat op) ≡ Known op
-unfolding named
-named-flat (FormatError n) = refl
-named-flat (CanTransmit id ide rtr dl) = refl
-named-flat (FdTransmit id ide brs esi dl) = refl
-named-flat (XlTransmit id ide sec sdt vcid af dl) = refl
-named-flat (Confirm id) = refl
-named-flat (ArbitrationLost id) = refl
-named-flat (BusError id code flag sender) = refl
-named-flat (Configuration kind value) = refl
-named-flat (Status state) = refl
-named-flat Wakeup = refl
+-- a record whose numbers fit the types of their fields
+pub record TypedFlat (f : FlatOperation) : Type 0 where
+  pub id : f .id < 2 ^ 32
+  pub word : f .word < 2 ^ 32
+  pub length : f .length < 2 ^ 16
+  pub first : f .first < 2 ^ 8
+  pub second : f .second < 2 ^ 8
+  pub third : f .third < 2 ^ 8
+  pub fourth : f .fourth < 2 ^ 8
 
 known-same : {a b : Operation} → Known a ≡ Known b → a ≡ b
 known-same e = cc
@@ -70,7 +67,7 @@ module _ (f : FlatOperation) (op : Operation) where
       (line Back (f .code) 0x42 wakeup unknown (row wakeup 0x42 refl refl refl) (λ e. not-known e))))))))))
 
   -- what a record of typed fields names is typed
-  pub named-typed : FlatTyped f → named f ≡ Known op → TypedOperation op
+  pub named-typed : TypedFlat f → named f ≡ Known op → TypedOperation op
   unfolding named
   named-typed t = go (kindOf (f .code))
     where

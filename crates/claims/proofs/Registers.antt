@@ -21,9 +21,9 @@ use Rattle.claims.specs.Demands.{Registers, registerAt, keep}
 -- ---- one register
 
 -- what is written flat is read back, where it fits
-open-flat : (x : Register) → length (x .opened) ≤ maxOpen → openIn (recordOf x) ≡ x
+open-record : (x : Register) → length (x .opened) ≤ maxOpen → openIn (recordOf x) ≡ x
 unfolding openIn recordOf
-open-flat x h =
+open-record x h =
     let none : length (x .opened) - maxOpen ≡ 0 = omega arith in
     let all : take (length (x .opened)) (x .opened ++ replicate (maxOpen - length (x .opened)) 0) ≡ x .opened =
     take-append-seam (x .opened) _ in
@@ -34,10 +34,10 @@ open-flat x h =
     flag false = refl
 
 -- a register call answers with the register after it, written flat
-answered-flat : (x : Register) (u : Update)
+answered-record : (x : Register) (u : Update)
     → answered (recordOf x) u ≡ record { number = updateNumber u; register = recordOf (registerAfter x u) }
-answered-flat x (updated y) = refl
-answered-flat x (rejected r) = refl
+answered-record x (updated y) = refl
+answered-record x (rejected r) = refl
 
 -- ---- all registers
 
@@ -75,11 +75,11 @@ few-open b rs a k = go (leb (length rs) k) refl
         leb-true (length (x .opened)) maxOpen (both (leb (length (x .opened)) maxOpen) _ (both _ _ v .0) .0)
 
 module _ (b : Bus) (rs : Registers) (ps : network.NodeRegisters) (a : Agree b (ps .each)) (f : Flattens rs ps) (k : ℕ) where
-  register-flat : registerAt rs k ≡ recordOf (network.nodeRegister ps k)
-  register-flat = rw (f .each) (List·getD-map recordOf (ps .each) k newRegister)
+  register-record : registerAt rs k ≡ recordOf (network.nodeRegister ps k)
+  register-record = rw (f .each) (List·getD-map recordOf (ps .each) k newRegister)
 
   pub register-open : openIn (registerAt rs k) ≡ network.nodeRegister ps k
-  register-open = rw register-flat (open-flat (network.nodeRegister ps k) (few-open b (ps .each) a k))
+  register-open = rw register-record (open-record (network.nodeRegister ps k) (few-open b (ps .each) a k))
 
   -- after a register call of node k
   pub keep-flattens : (call : Register → Update)
@@ -89,7 +89,7 @@ module _ (b : Bus) (rs : Registers) (ps : network.NodeRegisters) (a : Agree b (p
   keep-flattens call =
       let x = network.nodeRegister ps k in
       let u = call (network.nodeRegister ps k) in
-      rw (register-open, register-flat, answered-flat x u)
+      rw (register-open, register-record, answered-record x u)
       (record {
         each = rw (f .each) (set-map (ps .each) k (registerAfter x u));
         numbers = ap (λ l. updateNumber u ∷ l) (f .numbers);

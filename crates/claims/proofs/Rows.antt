@@ -20,7 +20,7 @@ use Rattle.plain_bus.specs.Round.{Injection, isErrored, winnerId, owed, afterRo
 use Rattle.plain_bus.specs.Calls.{carried, collected, answerNumber, gives, refuses, maxSubmit, takenWhole, submit, wrongInjection, arbitrate, runRound, collect}
 use Rattle.plain_bus.specs.Register.{Register, maxOpen, validRegister, Update, updated, rejected, updateNumber, updates, openId, enterItem, enter, isOpen, closeId, readItem, read}
 use Rattle.plain_bus.specs.Session as session
-use Rattle.claims.specs.Demands.{firstRow, stepNumber, isIdle, roomFor, plainRows, isRejected, enterRows, readRows}
+use Rattle.claims.specs.Numbers.{firstRow, stepNumber, isIdle, roomFor, plainRows, isRejected, enterRows, readRows}
 
 -- ---- the bus
 

@@ -1,71 +1,45 @@
--- The customer's demands (00, item 4), in their order. They are stated of what the contracts of the calls name: startIn, submitIn,
--- roundIn, collectIn and bufferAfter (bus_model) with what these leave (bus), enter and read with what the register answers
--- (open_frames), readAt, answerOf and writtenOf (decoder, encoder). The rules that they are held to are those of plain_bus.
+-- Believed. The customer's demands (00, item 4): what is demanded of each call of the bus and of the registers, by what it is given, what
+-- it answers and what it leaves; and demand 3 of whole sessions of such calls. That the exported functions meet these is in Exported.
+-- The rules that they are held to are those of the plain bus.
 -- Assumes nothing.
 use Prim.Native.Nat.{ℕ, _+_, _<_}
 use mathlib.Core.Path.{_≡_}
 use mathlib.Core.Logic.{_⊎_}
 use mathlib.Core.List.{List, [], _∷_, _++_, map}
-use mathlib.Core.Bool.{Bool, true, false, cond, not, _&&_}
-use lib.Dec.{leb, ltb, eqb}
-use lib.ListN.{length, take, drop, getD, set, replicate}
+use mathlib.Core.Bool.{true, false, cond}
+use lib.Dec.{eqb}
+use lib.ListN.{length, getD, set, replicate}
 use Rattle.operation.specs.Number.{Bytes}
-use Rattle.operation.specs.Format.{dataLength, lengthOf}
-use Rattle.operation.specs.Rules.{legal}
-use Rattle.operation.specs.declared.Operation.{Operation}
 use Rattle.decoder.specs.Stream.{itemsOf}
-use Rattle.encoder.specs.Writing as encoder
-use Rattle.codec.specs.Claims.{WrittenReads, ReadWrites, ReadsThrough}
+use Rattle.slots.specs.Slots.{freeSlot}
 use Rattle.slots.specs.declared.Slot.{Slot}
-use Rattle.plain_bus.specs.Held.{Frame, Bus, lastRound, discards, attached, nodeAt, allHaveRoom}
-use Rattle.plain_bus.specs.Refusal.{numberOf}
-use Rattle.plain_bus.specs.Submit.{Step, done, fails, takeItems}
-use Rattle.plain_bus.specs.Order.{Entry, goesBefore, Pending, Winner, nobody, wins, winner}
+use Rattle.plain_bus.specs.Held.{Frame, Bus, discards, nodeAt}
+use Rattle.plain_bus.specs.Order.{Entry, goesBefore, Pending}
 use Rattle.plain_bus.specs.Round.{Injection, isErrored, winnerId, without, owed}
 use Rattle.plain_bus.specs.Calls as plain
-use Rattle.plain_bus.specs.Register as register
-use Rattle.plain_bus.specs.Register.{newRegister, validRegister, Update, updated, rejected, updates, enterItem, enter, readItem, read}
+use Rattle.plain_bus.specs.Register.{newRegister, enter, read}
 use Rattle.plain_bus.specs.Session as session
 use Rattle.plain_bus.specs.Session.{times, pendingIds, closingIds, allZero}
-use Rattle.bus_state.specs.Memory.{Memory, held, view}
+use Rattle.bus_state.specs.Memory.{Memory, held, slotCount, view}
 use Rattle.bus_state.specs.Valid.{validState}
-use Rattle.bus_model.specs.Primitives.{newState}
-use Rattle.bus_model.specs.Calls.{answers, replies, lentWell, startIn, submitIn, roundIn, collectIn, bufferAfter}
-use Rattle.bus_model.specs.Refines.{TypedMemory}
+use Rattle.bus_state.specs.declared.State.{State}
+use Rattle.bus_model.specs.Calls.{answers, lentWell}
 use Rattle.outcome.specs.Outcome.{outcomeIs, refusalRow, answerOf}
 use Rattle.outcome.specs.declared.Answer.{Answer}
 use Rattle.arbitration.specs.Injections.{injectionFrom}
-use Rattle.bus.specs.Left.{Left, left, leaves}
 use Rattle.open_frames.specs.Record.{openIn, recordOf, answered}
 use Rattle.open_frames.specs.declared.Register.{Register}
 use Rattle.open_frames.specs.declared.RegisterAnswer.{RegisterAnswer}
-use Rattle.claims.specs.Trips.{FlatWrittenReads, FlatReadWrites}
+use Rattle.claims.specs.Numbers.{Rows, firstRow, startRows, callRows, enterRows, readRows}
 
--- ---- the calls after a start
+-- ---- a call after a start
 
--- a call with what it is given besides state and lent memory: a node and its buffer, which holds bytes; the three numbers of an
--- injection; a node and the caller's buffer
+-- with what it is given besides state and lent memory: a node and its buffer, which holds bytes; the three numbers of an injection;
+-- a node and the caller's buffer
 pub data Call : Type 0 where
   submits : (node : ℕ) (buffer : List ℕ) → Bytes buffer → Call
   arbitrates : (present code detector : ℕ) → Call
   collects : (node : ℕ) (buffer : List ℕ) → Call
-
--- what a call leaves of the memory that it finds
-unfoldable pub leftBy : Memory → Call → Left
-leftBy m (submits node buffer u) = leaves (submitIn m node buffer)
-leftBy m (arbitrates present code detector) = leaves (roundIn m (injectionFrom present code detector))
-leftBy m (collects node buffer) = leaves (collectIn m node (length buffer))
-
--- for the next call: the state that was given back and the lent memory as it was left
-abbrev pub memoryOf : Left → Memory
-memoryOf l = held (l .answer .state) (l .slots) (l .payload) (l .queues)
-
--- the bytes that a call gives: as many of the caller's buffer after it as the answer's length says
-unfoldable pub givenBy : Memory → Call → List ℕ
-givenBy m (submits node buffer u) = []
-givenBy m (arbitrates present code detector) = []
-givenBy m (collects node buffer) =
-    let r = collectIn m node (length buffer) in take (leaves r .answer .length) (bufferAfter (r .reply) buffer)
 
 -- the same call to the plain bus, which is fed only the arguments, and of collect's buffer only the length
 abbrev pub plainCall : Call → session.Call
@@ -73,115 +47,26 @@ plainCall (submits node buffer u) = session.submission node buffer
 plainCall (arbitrates present code detector) = session.round (injectionFrom present code detector)
 plainCall (collects node buffer) = session.collection node (length buffer)
 
--- the answer but for its state, and the bytes given, are those of the plain bus
-pub record SameAnswer (m : Memory) (c : Call) (a : plain.Answer) : Type 0 where
-  pub answer : leftBy m c .answer ≡ answerOf (outcomeIs (answers a)) (leftBy m c .answer .state)
-  pub bytes : givenBy m c ≡ plain.bytesGiven a
-
--- ---- demand 1: refusals as listed, and a refused call changes nothing
-
--- rows of 01's table of numbers: a number, and whether it applies. The first that applies is given, and 0 where none does
-abbrev pub Rows : Type 0
-Rows = List (ℕ × Bool)
-
-unfoldable pub firstRow : Rows → ℕ
-firstRow [] = 0
-firstRow (r ∷ rs) = cond (r .1) (r .0) (firstRow rs)
-
-abbrev pub startRows : Memory → ℕ → Rows
-startRows m count = (1, not (lentWell m)) ∷ (2, not (leb 2 count && leb count 8)) ∷ []
-
--- the number of the first step of a buffer that fails
-abbrev pub stepNumber : Step → ℕ
-stepNumber (done b) = 0
-stepNumber (fails r) = numberOf r
-
-abbrev pub isIdle : Winner → Bool
-isIdle nobody = true
-isIdle (wins w) = false
-
--- whether every queue has room for what a round owes it
-abbrev pub roomFor : Injection → Winner → Bus → Bool
-roomFor e nobody b = true
-roomFor e (wins w) b = allHaveRoom (owed e w) b
-
--- 8 against 9 goes by the first step that fails; idle, which is number 0, is decided after 6 and before 9
-unfoldable pub plainRows : Bus → session.Call → Rows
-plainRows b (session.submission k buffer) =
-    let s = stepNumber (takeItems k (itemsOf buffer) (done b)) in
-    (4, not (attached b k)) ∷ (5, ltb plain.maxSubmit (length buffer)) ∷ (8, eqb s 8) ∷ (9, eqb s 9) ∷ []
-plainRows b (session.round e) =
-    (6, plain.wrongInjection b e)
-    ∷ (0, isIdle (winner b)) ∷ (9, not (roomFor e (winner b) b)) ∷ (10, leb lastRound (b .round)) ∷ []
-plainRows b (session.collection k room) = (4, not (attached b k)) ∷ (11, ltb room (length (nodeAt b k .queue))) ∷ []
-
--- of submit, round and collect
-abbrev pub rows : Memory → Call → Rows
-rows m c = (1, not (lentWell m)) ∷ (3, not (validState (m .state) (m .slots))) ∷ plainRows (view m) (plainCall c)
-
--- of write, for so many data bytes and a buffer of so many bytes
-abbrev pub writeRows : Operation → ℕ → ℕ → Rows
-writeRows op given room =
-    (7, not (legal op && eqb given (dataLength op) && leb given 65_535)) ∷ (11, not (leb (lengthOf op) room)) ∷ []
-
--- of a register's calls: the steps of entering are rejected by 12 only, and those of reading by 13
-abbrev pub isRejected : Update → Bool
-isRejected (updated r) = false
-isRejected (rejected x) = true
-
-abbrev pub enterRows : register.Register → List ℕ → Rows
-enterRows r buffer = (3, not (validRegister r)) ∷ (12, isRejected (updates enterItem (itemsOf buffer) (updated r))) ∷ []
-
-abbrev pub readRows : register.Register → List ℕ → Rows
-readRows r buffer = (3, not (validRegister r)) ∷ (13, isRejected (updates readItem (itemsOf buffer) (updated r))) ∷ []
-
--- a refused call gives only its number, and leaves the state and all that is lent as it found them
-abbrev pub KeptIfRefused : Memory → Left → Type 0
-KeptIfRefused m l =
-    (l .answer .number ≡ 0 → ⊥)
-    → l ≡ left (refusalRow (l .answer .number) (m .state)) (m .slots) (m .payload) (m .queues)
-
-pub record Demand1 : Type 0 where
-  -- a start, to which the state before it is one of node count 0
-  pub startNumber : (slots : List Slot) (payload queues : List ℕ) (count : ℕ)
-      → let m = held (newState 0) slots payload queues in
-      leaves (startIn m count) .answer .number ≡ firstRow (startRows m count)
-  pub startKept : (slots : List Slot) (payload queues : List ℕ) (count : ℕ)
-      → let m = held (newState 0) slots payload queues in KeptIfRefused m (leaves (startIn m count))
-  -- submit, round and collect; TypedMemory says that the numbers in a memory fit the types of their fields, as in the code they do
-  pub callNumber : (m : Memory) (c : Call) → (lentWell m ≡ true → TypedMemory m) → leftBy m c .answer .number ≡ firstRow (rows m c)
-  pub callKept : (m : Memory) (c : Call) → KeptIfRefused m (leftBy m c)
-  -- past the length given, which is 0 where it is refused, a collect leaves the caller's buffer
-  pub bufferKept : (m : Memory) (node : ℕ) (buffer : List ℕ)
-      → let r = collectIn m node (length buffer) in
-      drop (leaves r .answer .length) (bufferAfter (r .reply) buffer) ≡ drop (leaves r .answer .length) buffer
-  -- write
-  pub writeNumber : (op : Operation) (given room : ℕ)
-      → encoder.writtenNumber (encoder.writeOutcome op given room) ≡ firstRow (writeRows op given room)
-  pub writeKept : (op : Operation) (payload buffer : List ℕ)
-      → (encoder.writtenNumber (encoder.writeOutcome op (length payload) (length buffer)) ≡ 0 → ⊥)
-      → encoder.writtenOf op payload buffer ≡ buffer
-  -- the register's calls
-  pub enterNumber : (r : Register) (buffer : List ℕ)
-      → answered r (enter (openIn r) buffer) .number ≡ firstRow (enterRows (openIn r) buffer)
-  pub readNumber : (r : Register) (buffer : List ℕ)
-      → answered r (read (openIn r) buffer) .number ≡ firstRow (readRows (openIn r) buffer)
-  pub registerKept : (r : Register) (u : Update) → (answered r u .number ≡ 0 → ⊥) → answered r u .register ≡ r
-
--- ---- demand 2: reading and writing; order, queues, removals and age
+-- an answer of the plain bus, with 01's number and values
+abbrev pub answerFor : plain.Answer → Answer → Type 0
+answerFor p a = a ≡ answerOf (outcomeIs (answers p)) (a .state)
 
 -- a memory that refusals 1 and 3 let pass
 pub record Passes (m : Memory) : Type 0 where
-  pub typed : TypedMemory m
+  pub lent : lentWell m ≡ true
   pub valid : validState (m .state) (m .slots) ≡ true
 
--- a call is that of the plain bus on what is read from the memory, and leaves a memory that passes again
-pub record ByRules (m : Memory) (c : Call) : Type 0 where
-  pub same : SameAnswer m c (session.call (view m) (plainCall c) .answer)
-  pub bus : view (memoryOf (leftBy m c)) ≡ session.call (view m) (plainCall c) .bus
-  pub passes : Passes (memoryOf (leftBy m c))
+-- a call of the bus answers and leaves what the plain bus does: p is what the plain bus's call comes to, a the answer, out the bytes that
+-- were given, and m the memory with the state in the answer
+pub record SameAs (p : plain.Outcome) (a : Answer) (out : List ℕ) (m : Memory) : Type 0 where
+  pub answer : answerFor (p .answer) a
+  pub bytes : out ≡ plain.bytesGiven (p .answer)
+  pub bus : view m ≡ p .bus
+  pub passes : Passes m
 
--- a round takes the pending frame w, and the bus b becomes b′
+-- ---- demand 2: a round
+
+-- it takes the pending frame w, and the bus b becomes b′
 pub record Takes (e : Injection) (w : Entry) (a : Answer) (b b′ : Bus) : Type 0 where
   -- it goes before every other
   pub pending : Pending b w
@@ -203,32 +88,67 @@ pub record Takes (e : Injection) (w : Entry) (a : Answer) (b b′ : Bus) : Type 
       → nodeAt b′ j .pending ≡ nodeAt b j .pending
 
 -- a round that is not refused: idle, where nothing is pending and nothing changes, or it takes a frame
-pub data Round (m : Memory) (e : Injection) (l : Left) : Type 0 where
-  idles : ((y : Entry) → Pending (view m) y → ⊥) → l ≡ leaves (replies plain.idle m) → Round m e l
-  takes : (w : Entry) → Takes e w (l .answer) (view m) (view (memoryOf l)) → Round m e l
+pub data Round (e : Injection) (m : Memory) (a : Answer) (m′ : Memory) : Type 0 where
+  idles : ((y : Entry) → Pending (view m) y → ⊥) → answerFor plain.idle a → m′ ≡ m → Round e m a m′
+  takes : (w : Entry) → Takes e w a (view m) (view m′) → Round e m a m′
+
+-- of the other calls nothing more is said
+abbrev pub IfRound : Call → Memory → Answer → Memory → Type 0
+IfRound (submits node buffer u) m a m′ = Unit {0}
+IfRound (arbitrates present code detector) m a m′ = Round (injectionFrom present code detector) m a m′
+IfRound (collects node buffer) m a m′ = Unit {0}
 
 -- one of some frames
 abbrev pub Among : Frame → List Frame → Type 0
 Among f [] = ⊥
 Among f (g ∷ fs) = (f ≡ g) ⊎ Among f fs
 
-pub record Demand2 : Type 0 where
-  -- what is written reads back the same; what reads well writes back to the same bytes; reading goes through to the end
-  pub writtenReads : WrittenReads
-  pub readWrites : ReadWrites
-  pub readsThrough : (s : List ℕ) → ReadsThrough s
-  -- the same of the records of the calls for C
-  pub flatWrittenReads : FlatWrittenReads
-  pub flatReadWrites : FlatReadWrites
-  -- every call, and every round that is not refused
-  pub byRules : (m : Memory) (c : Call) → Passes m → ByRules m c
-  pub round : (m : Memory) (present code detector : ℕ) → Passes m
-      → let l = leftBy m (arbitrates present code detector) in
-      l .answer .number ≡ 0 → Round m (injectionFrom present code detector) l
+-- ---- what is demanded of submit, round and collect
+
+-- the call c found the memory m, answered a, gave the bytes out, and left m′: the state in its answer and the lent memory
+pub record Demanded (c : Call) (m : Memory) (a : Answer) (out : List ℕ) (m′ : Memory) : Type 0 where
+  -- demand 1: the number is that of the first row that applies; a refused call gives only its number and changes nothing
+  pub number : a .number ≡ firstRow (callRows m (plainCall c))
+  pub kept : (a .number ≡ 0 → ⊥) → (a ≡ refusalRow (a .number) (m .state)) × (m′ ≡ m) × (out ≡ [])
+  -- demand 2: where 1 and 3 do not arise, it is the plain bus's call on what is read from the memory
+  pub same : Passes m → SameAs (session.call (view m) (plainCall c)) a out m′
+  pub round : Passes m → a .number ≡ 0 → IfRound c m a m′
   -- no acceptance round is set anew: what is pending after a call was pending before it, as it is, or is accepted now
-  pub accepted : (m : Memory) (c : Call) → Passes m → (j : ℕ) → j < length (view m .nodes) → (f : Frame)
-      → Among f (nodeAt (view (memoryOf (leftBy m c))) j .pending)
+  pub accepted : Passes m → (j : ℕ) → j < length (view m .nodes) → (f : Frame) → Among f (nodeAt (view m′) j .pending)
       → Among f (nodeAt (view m) j .pending) ⊎ (f .accepted ≡ view m .round)
+
+-- ---- what is demanded of a start
+
+-- it found the lent slots, payload and queues, answered a, and left the slots as after; payload and queues it only reads
+pub record Started (slots : List Slot) (payload queues : List ℕ) (count : ℕ) (a : Answer) (after : List Slot) : Type 0 where
+  pub number : a .number ≡ firstRow (startRows (held (a .state) slots payload queues) count)
+  -- a refused one gives only its number and a state of node count 0
+  pub kept : (a .number ≡ 0 → ⊥) → (a ≡ refusalRow (a .number) (a .state)) × (a .state .count ≡ 0) × (after ≡ slots)
+  -- an accepted one frees all slots, and the bus is the plain bus at its start
+  pub freed : a .number ≡ 0 → after ≡ replicate slotCount freeSlot
+  pub same : a .number ≡ 0 → SameAs (plain.start count) a [] (held (a .state) after payload queues)
+
+-- ---- what is demanded of the registers
+
+-- after entering a buffer whose submit was accepted, and after reading the bytes that an accepted collect gave
+abbrev pub entered : Register → List ℕ → RegisterAnswer
+entered r buffer = answered r (enter (openIn r) buffer)
+
+abbrev pub closed : Register → List ℕ → RegisterAnswer
+closed r bytes = answered r (read (openIn r) bytes)
+
+-- the call found the register r and answered a, which is to be x
+pub record RegisterAnswers (x : RegisterAnswer) (rows : Rows) (r : Register) (a : RegisterAnswer) : Type 0 where
+  pub answer : a ≡ x
+  -- demand 1
+  pub number : a .number ≡ firstRow rows
+  pub kept : (a .number ≡ 0 → ⊥) → a .register ≡ r
+
+abbrev pub Enters : Register → List ℕ → RegisterAnswer → Type 0
+Enters r buffer a = RegisterAnswers (entered r buffer) (enterRows (openIn r) buffer) r a
+
+abbrev pub Closes : Register → List ℕ → RegisterAnswer → Type 0
+Closes r bytes a = RegisterAnswers (closed r bytes) (readRows (openIn r) bytes) r a
 
 -- ---- demand 3: the registers
 
@@ -245,11 +165,10 @@ abbrev pub keep : Registers → ℕ → RegisterAnswer → Registers
 keep rs k a = record { each = set (rs .each) k (a .register); numbers = a .number ∷ rs .numbers }
 
 -- the register call that follows an accepted call: its buffer is entered, the bytes that it gave are read
-unfoldable pub followUp : Memory → Registers → Call → Registers
-followUp m rs (submits node buffer u) = let r = registerAt rs node in keep rs node (answered r (enter (openIn r) buffer))
-followUp m rs (arbitrates present code detector) = rs
-followUp m rs (collects node buffer) =
-    let r = registerAt rs node in keep rs node (answered r (read (openIn r) (givenBy m (collects node buffer))))
+unfoldable pub followUp : Call → List ℕ → Registers → Registers
+followUp (submits node buffer u) out rs = keep rs node (entered (registerAt rs node) buffer)
+followUp (arbitrates present code detector) out rs = rs
+followUp (collects node buffer) out rs = keep rs node (closed (registerAt rs node) out)
 
 -- ---- demand 3: any list of calls, one after the other
 
@@ -259,30 +178,29 @@ pub record World : Type 0 where
   pub registers : Registers
 
 -- after a start: a new register for every attached node
-abbrev pub opening : Left → World
-opening l = record {
-  memory = memoryOf l;
-  registers = record { each = replicate (l .answer .state .count) (recordOf newRegister); numbers = [] };
-}
+abbrev pub opening : Memory → World
+opening m = record { memory = m; registers = record { each = replicate (m .state .count) (recordOf newRegister); numbers = [] } }
 
--- after a call, and the register call that follows where it was accepted
-unfoldable pub after : World → Call → World
-after w c = record {
-  memory = memoryOf (leftBy (w .memory) c);
-  registers = cond (eqb (leftBy (w .memory) c .answer .number) 0) (followUp (w .memory) (w .registers) c) (w .registers);
-}
+-- one call on the memory as the last one left it, and the register call that follows where it was accepted
+pub record Follows (c : Call) (w w′ : World) : Type 0 where
+  pub answer : Answer
+  pub out : List ℕ
+  pub demanded : Demanded c (w .memory) answer out (w′ .memory)
+  pub registers : w′ .registers ≡ cond (eqb (answer .number) 0) (followUp c out (w .registers)) (w .registers)
 
-unfoldable pub run : List Call → World → World
-run [] w = w
-run (c ∷ cs) w = run cs (after w c)
+-- from w the calls lead to w′
+abbrev pub Session : List Call → World → World → Type 0
+Session [] w w′ = w ≡ w′
+Session (c ∷ cs) w w′ = (v : World) × Follows c w v × Session cs v w′
 
--- what is claimed of a session, and of the plain bus that was fed the same arguments
+-- what is claimed of a session that led to w, and of the plain bus b that was fed the same arguments
 pub record Claim (w : World) (b : Bus) : Type 0 where
   -- all that the plain bus holds is what is read from state and lent memory
   pub bus : view (w .memory) ≡ b
   -- whatever call comes next, 1 and 3 do not arise, and its answer and the bytes that it gives are the plain bus's own
   pub passes : Passes (w .memory)
-  pub same : (c : Call) → SameAnswer (w .memory) c (session.call b (plainCall c) .answer)
+  pub same : (c : Call) (a : Answer) (out : List ℕ) (m : Memory) → Demanded c (w .memory) a out m
+      → SameAs (session.call b (plainCall c)) a out m
   -- every register call answered 0
   pub allDone : allZero (w .registers .numbers) ≡ true
   -- of every attached node and every ID number: how often the register has it open is how many pending frames have it, and how
@@ -291,10 +209,17 @@ pub record Claim (w : World) (b : Bus) : Type 0 where
       → times id (openIn (registerAt (w .registers) k) .opened)
       ≡ times id (pendingIds (nodeAt b k .pending)) + times id (closingIds (itemsOf (nodeAt b k .queue)))
 
--- any lent memory and any accepted start, then any list of calls, refused ones included
-abbrev pub Demand3 : Type 0
-Demand3 =
-    (slots : List Slot) (payload queues : List ℕ) (count : ℕ)
-    → let start = leaves (startIn (held (newState 0) slots payload queues) count) in
-    start .answer .number ≡ 0
-    → (cs : List Call) → Claim (run cs (opening start)) (session.calls (map plainCall cs) (plain.start count .bus))
+pub record Demand3 : Type 0 where
+  -- any lent memory and any accepted start, then any list of calls, refused ones included
+  pub holds : (slots after : List Slot) (payload queues : List ℕ) (count : ℕ) (a : Answer)
+      → Started slots payload queues count a after
+      → a .number ≡ 0
+      → (cs : List Call) (w : World)
+      → Session cs (opening (held (a .state) after payload queues)) w
+      → Claim w (session.calls (map plainCall cs) (plain.start count .bus))
+  -- and it is said of something: where the lent memory has its sizes and the count is 2 to 8, such a start there is, and with it such a
+  -- session for any list of calls
+  pub exists : (slots : List Slot) (payload queues : List ℕ) (count : ℕ)
+      → ((s : State) → firstRow (startRows (held s slots payload queues) count) ≡ 0)
+      → (a : Answer) × (after : List Slot) × Started slots payload queues count a after
+      × ((cs : List Call) → (w : World) × Session cs (opening (held (a .state) after payload queues)) w)

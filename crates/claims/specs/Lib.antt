@@ -1,3 +1,4 @@
+pub mod Numbers
+pub mod RoundTrip
 pub mod Demands
-pub mod Trips
 pub mod Exported

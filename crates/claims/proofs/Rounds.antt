@@ -1,5 +1,5 @@
--- Demand 2: the round trip is codec's; each call is the plain bus's (Calls); a round that is not refused is idle, or carried out and
--- then does what the laws of plain_bus say of the winner.
+-- Demand 2: each call is the plain bus's (Calls); a round that is not refused is idle, or carried out and then does what the laws of
+-- plain_bus say of the winner.
 -- Assumes nothing.
 use mathlib.Core.Path.{_≡_, refl, sym, ap, _∙_, subst}
 use Prim.Native.Nat.{ℕ, _<_}
@@ -8,7 +8,6 @@ use mathlib.Core.Bool.{Bool, true, false, cond, not}
 use lib.Dec.{leb, eqb}
 use lib.ListN.{length}
 use Rattle.operation.proofs.Tests.{false-is-true}
-use Rattle.codec.proofs.Claims.{written-reads, read-writes, reads-through}
 use Rattle.plain_bus.specs.Held.{Frame, Bus, lastRound, nodeAt}
 use Rattle.plain_bus.specs.Refusal.{invalid, badInjection, queueFull, roundsUsedUp}
 use Rattle.plain_bus.specs.Order.{Entry, Winner, nobody, wins}
@@ -24,25 +23,36 @@ use Rattle.bus_state.specs.Valid.{validState}
 use Rattle.bus_model.specs.Submit.{roomForEach}
 use Rattle.bus_model.specs.Round.{winnerIn, owedAt, afterRoundIn}
 use Rattle.bus_model.specs.Calls.{Reply, wrongMemory, answers, Result, replies, refusing, lentWell, checked, wrongInjectionIn, arbitrateIn, rounded, roundIn}
-use Rattle.bus_model.specs.Refines.{Refines}
+use Rattle.bus_model.specs.Refines.{TypedMemory, Refines}
 use Rattle.bus_model.proofs.Validity.{valid-good}
 use Rattle.bus_model.proofs.Session.{Follows}
 use Rattle.bus_model.proofs.Round.{round-refines}
 use Rattle.arbitration.specs.Injections.{injectionFrom}
 use Rattle.bus.specs.Left.{leaves}
-use Rattle.claims.specs.Demands.{Call, leftBy, memoryOf, plainCall, Passes, ByRules, Round, idles, takes, Among, Demand2}
+use Rattle.claims.specs.Demands.{Call, submits, arbitrates, collects, plainCall, SameAs, Round, idles, takes, IfRound, Among}
+use Rattle.claims.proofs.Model.{leftBy, memoryOf, givenBy}
 use Rattle.claims.proofs.Answers.{left-memory, left-number, done-number}
-use Rattle.claims.proofs.Calls.{same-answer, follows}
+use Rattle.claims.proofs.Calls.{given-same, same-answer, follows}
 use Rattle.claims.proofs.Pending.{call-known}
-use Rattle.claims.proofs.Trips.{flat-written-reads, flat-read-writes}
 
 -- ---- each call
 
-by-rules : (m : Memory) (c : Call) → Passes m → ByRules m c
-by-rules m c p =
-    let f : Follows m (view m) = record { bus = refl; valid = p .valid; typed = p .typed } in
+-- memory that is of its types and sizes is lent well
+pub typed-lent : (m : Memory) → TypedMemory m → lentWell m ≡ true
+unfolding lentWell
+typed-lent m t = rw (t .sized .slots, t .sized .payload, t .sized .queues)
+
+pub same-as : (m : Memory) (c : Call) → TypedMemory m → validState (m .state) (m .slots) ≡ true
+    → SameAs (session.call (view m) (plainCall c)) (leftBy m c .answer) (givenBy m c) (memoryOf (leftBy m c))
+same-as m c t v =
+    let f : Follows m (view m) = record { bus = refl; valid = v; typed = t } in
     let n = follows f c in
-    record { same = same-answer f c; bus = n .bus; passes = record { typed = n .typed; valid = n .valid } }
+    record {
+      answer = same-answer f c;
+      bytes = given-same f c;
+      bus = n .bus;
+      passes = record { lent = typed-lent (memoryOf (leftBy m c)) (n .typed); valid = n .valid };
+    }
 
 -- ---- an idle round changes nothing
 
@@ -87,12 +97,16 @@ round-idle m e = checked-idle m (rounded m e) (go (wrongInjectionIn m e) (winner
 -- ---- a round that is not refused
 
 module _ (m : Memory) (e : Injection) (v : Valid (view m)) where
+  abbrev RoundIs : Result → Type 0
+  RoundIs r = Round e m (leaves r .answer) (memoryOf (leaves r))
+
   round-is : {o : Outcome} → Came (view m) (session.round e) o → Refines (roundIn m e) o
-      → leaves (roundIn m e) .answer .number ≡ 0 → Round m e (leaves (roundIn m e))
+      → leaves (roundIn m e) .answer .number ≡ 0 → RoundIs (roundIn m e)
   round-is (turnedDown x) f n =
       let zero = sym (left-number (roundIn m e) (refused x) (f .answer)) ∙ n in
       false-is-true (sym (done-number (refused x)) ∙ ap (λ (k : ℕ). eqb k 0) zero)
-  round-is (idled d q) f n = idles (nobody-pending (view m) q) (ap leaves (round-idle m e (ap saysIdle (f .answer))))
+  round-is (idled d q) f n =
+      subst RoundIs (sym (round-idle m e (ap saysIdle (f .answer)))) (idles (nobody-pending (view m) q) refl refl)
   round-is (carriedOut d w l q room last) f n =
       let p = winner-pending (view m) w q in
       let h = p .attached in
@@ -113,25 +127,18 @@ module _ (m : Memory) (e : Injection) (v : Valid (view m)) where
         waiting = losers-wait (view m) e w;
       }))
 
--- what is pending after a call
-still-known : (m : Memory) (c : Call) → Passes m → (j : ℕ) → j < length (view m .nodes) → (f : Frame)
-    → Among f (nodeAt (view (memoryOf (leftBy m c))) j .pending)
-    → Among f (nodeAt (view m) j .pending) ⊎ (f .accepted ≡ view m .round)
-still-known m c p j h f a =
-    call-known (view m) (plainCall c) j h f (subst (λ (b : Bus). Among f (nodeAt b j .pending)) (by-rules m c p .bus) a)
-
-pub demand2 : Demand2
+pub if-round : (m : Memory) (c : Call) → TypedMemory m → validState (m .state) (m .slots) ≡ true → leftBy m c .answer .number ≡ 0
+    → IfRound c m (leftBy m c .answer) (memoryOf (leftBy m c))
 unfolding leftBy session.call
-demand2 = record {
-  writtenReads = written-reads;
-  readWrites = read-writes;
-  readsThrough = reads-through;
-  flatWrittenReads = flat-written-reads;
-  flatReadWrites = flat-read-writes;
-  byRules = by-rules;
-  round = λ m present code detector p.
-      let e = injectionFrom present code detector in
-      round-is m e (valid-good m (p .typed) (p .valid) .valid) (came (view m) (session.round e))
-      (round-refines m e (p .typed) (p .valid));
-  accepted = still-known;
-}
+if-round m (submits node buffer u) t v n = tt
+if-round m (arbitrates present code detector) t v n =
+    let e = injectionFrom present code detector in
+    round-is m e (valid-good m t v .valid) (came (view m) (session.round e)) (round-refines m e t v) n
+if-round m (collects node buffer) t v n = tt
+
+-- what is pending after a call
+pub still-known : (m : Memory) (c : Call) → TypedMemory m → validState (m .state) (m .slots) ≡ true → (j : ℕ)
+    → j < length (view m .nodes) → (f : Frame) → Among f (nodeAt (view (memoryOf (leftBy m c))) j .pending)
+    → Among f (nodeAt (view m) j .pending) ⊎ (f .accepted ≡ view m .round)
+still-known m c t v j h f a =
+    call-known (view m) (plainCall c) j h f (subst (λ (b : Bus). Among f (nodeAt b j .pending)) (same-as m c t v .bus) a)
