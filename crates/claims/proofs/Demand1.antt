@@ -20,11 +20,12 @@ use Rattle.plain_bus.specs.Refusal.{badNodeCount}
 use Rattle.plain_bus.specs.Calls.{refused, accepted, idle, carried, collected}
 use Rattle.plain_bus.specs.Register.{Update, updated, rejected, updateNumber, enter, read}
 use Rattle.plain_bus.specs.Session as session
-use Rattle.bus_state.specs.Memory.{Memory, held, view}
+use Rattle.bus_state.specs.Memory.{Memory, held, view, lentWell}
 use Rattle.bus_state.specs.Valid.{validState}
+use Rattle.bus_state.proofs.Validity.{validity-tested}
 use Rattle.bus_state.specs.declared.State.{State}
 use Rattle.bus_model.specs.Primitives.{newState, startMemory}
-use Rattle.bus_model.specs.Calls.{Reply, wrongMemory, answers, replyDone, Result, replies, refusing, lentWell, checked, noStart, startIn, submitted, submitIn, rounded, roundIn, collection, collectIn, bufferAfter}
+use Rattle.bus_model.specs.Calls.{Reply, wrongMemory, answers, replyDone, Result, replies, refusing, checked, noStart, startIn, submitted, submitIn, rounded, roundIn, collection, collectIn, bufferAfter}
 use Rattle.bus_model.specs.Refines.{TypedMemory}
 use Rattle.bus_model.specs.Session.{callIn}
 use Rattle.bus_model.proofs.Refused as model
@@ -146,6 +147,7 @@ demand1 = record {
       let m = held (newState 0) slots payload queues in
       result-kept m (startIn m count) (model.start-left m count .none);
   callNumber = numbered;
+  validity = validity-tested;
   callKept = λ m c. rw (left-call m c) (result-kept m (callIn m (plainCall c)) (call-kept m (plainCall c)));
   bufferKept = λ m node buffer.
       let r = collectIn m node (length buffer) in buffer-past (r .reply) (r .memory .state) buffer;

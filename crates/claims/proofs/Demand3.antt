@@ -16,9 +16,9 @@ use Rattle.plain_bus.specs.Session as session
 use Rattle.plain_bus.specs.Network as network
 use Rattle.plain_bus.proofs.Preserved.{started}
 use Rattle.plain_bus.proofs.Networks.{Good, play-good, play-bus, start-good}
-use Rattle.bus_state.specs.Memory.{Memory, held}
+use Rattle.bus_state.specs.Memory.{Memory, held, lentWell}
 use Rattle.bus_model.specs.Primitives.{newState, startMemory}
-use Rattle.bus_model.specs.Calls.{wrongMemory, replies, refusing, lentWell, noStart, startIn}
+use Rattle.bus_model.specs.Calls.{wrongMemory, replies, refusing, noStart, startIn}
 use Rattle.bus_model.proofs.Buses.{view-length}
 use Rattle.bus_model.proofs.Start.{start-refines}
 use Rattle.bus_model.proofs.Session.{Follows}

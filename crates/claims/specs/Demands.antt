@@ -27,10 +27,11 @@ use Rattle.plain_bus.specs.Register as register
 use Rattle.plain_bus.specs.Register.{newRegister, validRegister, Update, updated, rejected, updates, enterItem, enter, readItem, read}
 use Rattle.plain_bus.specs.Session as session
 use Rattle.plain_bus.specs.Session.{times, pendingIds, closingIds, allZero}
-use Rattle.bus_state.specs.Memory.{Memory, held, view}
+use Rattle.bus_state.specs.Memory.{Memory, held, view, lentWell}
 use Rattle.bus_state.specs.Valid.{validState}
+use Rattle.bus_state.specs.Validity.{ValidityTested}
 use Rattle.bus_model.specs.Primitives.{newState}
-use Rattle.bus_model.specs.Calls.{answers, replies, lentWell, startIn, submitIn, roundIn, collectIn, bufferAfter}
+use Rattle.bus_model.specs.Calls.{answers, replies, startIn, submitIn, roundIn, collectIn, bufferAfter}
 use Rattle.bus_model.specs.Refines.{TypedMemory}
 use Rattle.outcome.specs.Outcome.{outcomeIs, refusalRow, answerOf}
 use Rattle.outcome.specs.declared.Answer.{Answer}
@@ -114,7 +115,7 @@ plainRows b (session.round e) =
     ∷ (0, isIdle (winner b)) ∷ (9, not (roomFor e (winner b) b)) ∷ (10, leb lastRound (b .round)) ∷ []
 plainRows b (session.collection k room) = (4, not (attached b k)) ∷ (11, ltb room (length (nodeAt b k .queue))) ∷ []
 
--- of submit, round and collect
+-- of submit, round and collect; what the test in row 3 decides is `validity` in Demand1
 abbrev pub rows : Memory → Call → Rows
 rows m c = (1, not (lentWell m)) ∷ (3, not (validState (m .state) (m .slots))) ∷ plainRows (view m) (plainCall c)
 
@@ -149,6 +150,8 @@ pub record Demand1 : Type 0 where
       → let m = held (newState 0) slots payload queues in KeptIfRefused m (leaves (startIn m count))
   -- submit, round and collect; TypedMemory says that the numbers in a memory fit the types of their fields, as in the code they do
   pub callNumber : (m : Memory) (c : Call) → (lentWell m ≡ true → TypedMemory m) → leftBy m c .answer .number ≡ firstRow (rows m c)
+  -- the test in row 3 passes exactly the state and lent memory that meet each clause of 01 (ValidMemory)
+  pub validity : ValidityTested
   pub callKept : (m : Memory) (c : Call) → KeptIfRefused m (leftBy m c)
   -- past the length given, which is 0 where it is refused, a collect leaves the caller's buffer
   pub bufferKept : (m : Memory) (node : ℕ) (buffer : List ℕ)
