@@ -61,10 +61,12 @@ notices 'pages, front: read-before' $segmentation_fault '' $plain --lent front -
 # Leaks are not what is looked for, and the search for them is not allowed everywhere.
 export ASAN_OPTIONS=detect_leaks=0
 passes AddressSanitizer $asan --lent heap --calls 200000
-valgrind='valgrind --quiet --error-exitcode=9'
-passes valgrind $valgrind $plain --lent heap --calls 3000
+under_valgrind() {
+    valgrind --quiet --error-exitcode=9 "$@"
+}
+passes valgrind under_valgrind $plain --lent heap --calls 3000
 for misuse in read-past read-before write-past; do
     notices "AddressSanitizer: $misuse" 1 'AddressSanitizer: heap-buffer-overflow' $asan --second --misuse $misuse
-    notices "valgrind: $misuse" 9 "Invalid ${misuse%-*} of size" $valgrind $plain --misuse $misuse
+    notices "valgrind: $misuse" 9 "Invalid ${misuse%-*} of size" under_valgrind $plain --misuse $misuse
 done
 echo "memory: $checks checks"
