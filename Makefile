@@ -1,11 +1,12 @@
 # make run        plays the sessions W5 and W6, then decodes the sample stream
+# make check      daily: the proofs that changed, linters, tests, a short comparison
 # make test       the gate: every proof from nothing, then the tests beside them
 # make examples   plays W6 from each language that has an example, held to examples/w6.txt
 # make install    header, static and shared library and pkg-config file to PREFIX=.. (DESTDIR=.. in front, to stage)
 # make bench      throughput of the proved library against the second program and against C that checks nothing
 # make memory     the comparisons with lent memory in guarded blocks, under AddressSanitizer and under valgrind
 # make soak N=..  N calls of the bus in random sessions, compared; SEED=.. for other ones
-.PHONY: run test examples install bench memory soak clean
+.PHONY: run check test examples install bench memory soak clean
 
 RT = rt
 PREFIX = /usr/local
@@ -31,6 +32,9 @@ run:
 	$(RT) check sessions decode
 	./target/bin/sessions
 	./target/bin/decode samples/mixed.bin
+
+check:
+	.ci/run quick
 
 test:
 	.ci/run
