@@ -2,19 +2,12 @@
 # The layout and the linters of all that is no Rattle: Rust, C, C++, shell and Python. A warning is an error.
 set -eu
 cd "$(dirname "$0")/.."
+. tests/need.sh
 checks=0
 
 fail() {
     echo "lint: $*"
     exit 1
-}
-
-# need COMMAND PACKAGE: installs the package where the command does not work
-need() {
-    "$1" --version >/dev/null 2>&1 || {
-        apt-get update -qq
-        apt-get install -y -qq "$2" >/dev/null
-    }
 }
 
 # passes NAME COMMAND..: one check
@@ -30,12 +23,17 @@ compiles() {
     "$@" -I include -fsyntax-only -Wall -Wextra -Wpedantic -Werror
 }
 
-need cargo-fmt rustfmt
-need cargo-clippy rust-clippy
-need shellcheck shellcheck
-need g++ g++
-need flake8 flake8
-need mypy mypy
+# need_component WORD COMPONENT: of the Rust toolchain that runs; Debian's are of an older Rust than the crates need
+need_component() {
+    cargo "$1" --version >/dev/null 2>&1 || rustup component add "$2" || fail "cargo $1 needs the component $2 of Rust's toolchain"
+}
+
+need_component fmt rustfmt
+need_component clippy clippy
+need shellcheck
+need g++
+need flake8
+need mypy
 
 for package in bindings/rust tests/second; do
     manifest=$package/Cargo.toml
@@ -43,7 +41,7 @@ for package in bindings/rust tests/second; do
     passes "cargo clippy $package" cargo clippy --manifest-path $manifest --release --offline --quiet --all-targets -- -D warnings
 done
 
-passes shellcheck shellcheck .ci/run tests/*.sh tests/interface/*.sh examples/*.sh
+passes shellcheck shellcheck -x .ci/run tests/*.sh tests/interface/*.sh examples/*.sh
 for file in examples/c/*.c tests/interface/*.c tests/second/floor/*.c; do
     passes "$file" compiles "${CC:-cc}" -std=c11 "$file"
 done

@@ -5,7 +5,10 @@
 # - under valgrind, which sees every access.
 # Each way is shown to notice a caller that lends less than it says. Takes the library from target/staticlib.
 set -eu
-cd "$(dirname "$0")/second"
+cd "$(dirname "$0")/.."
+. tests/need.sh
+need valgrind
+cd tests/second
 target=x86_64-unknown-linux-gnu
 plain=target/release/memory
 asan=target/asan/$target/release/memory
@@ -39,10 +42,6 @@ notices() {
     checks=$((checks + 1))
 }
 
-command -v valgrind >/dev/null || {
-    apt-get update -qq
-    apt-get install -y -qq valgrind >/dev/null
-}
 cargo build --release --offline --quiet --bin memory
 # The sanitizer comes with the stable toolchain and is switched on as an unstable option.
 RUSTC_BOOTSTRAP=1 RUSTFLAGS=-Zsanitizer=address \

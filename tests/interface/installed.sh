@@ -4,6 +4,7 @@
 # to examples/w6.txt.
 set -eu
 cd "$(dirname "$0")/../.."
+. tests/need.sh
 root=$PWD
 work=$(mktemp -d)
 trap 'rm -rf "$work"' EXIT
@@ -22,12 +23,8 @@ check() {
     checks=$((checks + 1))
 }
 
-for tool in g++ pkg-config; do
-    command -v "$tool" >/dev/null || {
-        apt-get update -qq
-        apt-get install -y -qq "$tool" >/dev/null
-    }
-done
+need g++
+need pkg-config
 
 install_to() {
     make --no-print-directory -s install "$@" RT="${RT:-rt}" >"$work/log" 2>&1 || {

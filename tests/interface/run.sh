@@ -3,6 +3,7 @@
 # The library has to be made: target/staticlib/libkettlefrost.a (rt staticlib kettlefrost).
 set -eu
 cd "$(dirname "$0")/../.."
+. tests/need.sh
 here=tests/interface
 library=target/staticlib/libkettlefrost.a
 header=include/kettlefrost.h
@@ -15,14 +16,6 @@ checks=0
 fail() {
     echo "interface: $*"
     exit 1
-}
-
-# need COMMAND PACKAGE: installs the package where the command is missing
-need() {
-    command -v "$1" >/dev/null || {
-        apt-get update -qq
-        apt-get install -y -qq "$2" >/dev/null
-    }
 }
 
 # counted COMMAND..: a command whose last line is 'NAME: N checks'
@@ -163,8 +156,8 @@ planted() {
     }
 }
 
-need g++ g++
-need valgrind valgrind
+need g++
+need valgrind
 export ASAN_OPTIONS=detect_leaks=0
 
 passes 'the header compiles as C99, C11 and C++11' compiles
