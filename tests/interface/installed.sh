@@ -39,13 +39,14 @@ files_in() {
 }
 
 version=$(awk '$2 ~ /^KF_VERSION_/ { printf dot $3; dot = "." }' include/kettlefrost.h)
+soname=libkettlefrost.so.${version%%.*}
 install_to PREFIX="$work/prefix"
 files_in "$work/prefix"
 cat >"$work/wanted" <<END
 ./include/kettlefrost.h
 ./lib/libkettlefrost.a
-./lib/libkettlefrost.so libkettlefrost.so.0
-./lib/libkettlefrost.so.0 libkettlefrost.so.$version
+./lib/libkettlefrost.so $soname
+./lib/$soname libkettlefrost.so.$version
 ./lib/libkettlefrost.so.$version
 ./lib/pkgconfig/kettlefrost.pc
 END
@@ -69,7 +70,7 @@ prints_w6() {
 }
 
 loads_the_copy() {
-    ldd ./dynamic | grep -q "libkettlefrost.so.0 => $work/prefix/lib/libkettlefrost.so.0 "
+    ldd ./dynamic | grep -q "$soname => $work/prefix/lib/$soname "
 }
 
 export LD_LIBRARY_PATH="$work/prefix/lib"
