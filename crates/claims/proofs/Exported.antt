@@ -60,7 +60,10 @@ use Rattle.kettlefrost.proofs.register.kf_register_enter.Met as register-enter-
 use Rattle.kettlefrost.proofs.register.kf_register_read as kf-register-read
 use Rattle.kettlefrost.proofs.register.kf_register_read.Symbol as register-read-code
 use Rattle.kettlefrost.proofs.register.kf_register_read.Met as register-read-thm
-use Rattle.claims.specs.Exported.{Statement, Holds, Start, Submit, Round, Collect, ReadAt, DataOf, WriteTo, RegisterNew, RegisterEnter, RegisterRead, Exported}
+use Rattle.kettlefrost.proofs.layout.kf_layout as kf-layout
+use Rattle.kettlefrost.proofs.layout.kf_layout.Symbol as layout-code
+use Rattle.kettlefrost.proofs.layout.kf_layout.Met as layout-thm
+use Rattle.claims.specs.Exported.{Statement, Holds, Start, Submit, Round, Collect, ReadAt, DataOf, WriteTo, RegisterNew, RegisterEnter, RegisterRead, Layout, Exported}
 use Rattle.claims.proofs.Model.{leftBy, givenBy}
 use Rattle.claims.proofs.Demanded.{demanded, given-is, past-given, started, enters, closes}
 use Rattle.claims.proofs.RoundTrip.{reads, wrote}
@@ -209,6 +212,9 @@ module _ {M : Type 1} where
   register-read-holds =
       follows M kf-register-read.ended register-read-code.routine _ RegisterRead register-read-thm.met (λ κs a r e f. closes _ _ _ f)
 
+  layout-holds : Holds M kf-layout.ended layout-code.routine Layout
+  layout-holds = layout-thm.met
+
   pub exported : Exported M
   exported = record {
     start = start-holds;
@@ -221,4 +227,5 @@ module _ {M : Type 1} where
     registerNew = register-new-holds;
     registerEnter = register-enter-holds;
     registerRead = register-read-holds;
+    layout = layout-holds;
   }

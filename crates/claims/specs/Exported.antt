@@ -24,6 +24,7 @@ use Rattle.bus_state.specs.Memory.{held}
 use Rattle.open_frames.specs.Record.{recordOf}
 use Rattle.kettlefrost.specs.Flat.{named}
 use Rattle.kettlefrost.specs.Calls.{dataAnswer}
+use Rattle.kettlefrost.specs.Layout.{layoutNumber}
 use Rattle.kettlefrost.proofs.kf_start as kf-start
 use Rattle.kettlefrost.proofs.kf_start.Symbol as start-code
 use Rattle.kettlefrost.proofs.kf_submit as kf-submit
@@ -44,6 +45,8 @@ use Rattle.kettlefrost.proofs.register.kf_register_enter as kf-register-enter
 use Rattle.kettlefrost.proofs.register.kf_register_enter.Symbol as register-enter-code
 use Rattle.kettlefrost.proofs.register.kf_register_read as kf-register-read
 use Rattle.kettlefrost.proofs.register.kf_register_read.Symbol as register-read-code
+use Rattle.kettlefrost.proofs.layout.kf_layout as kf-layout
+use Rattle.kettlefrost.proofs.layout.kf_layout.Symbol as layout-code
 use Rattle.claims.specs.RoundTrip.{Read, Wrote}
 use Rattle.claims.specs.Demands.{submits, arbitrates, collects, Demanded, Started, Enters, Closes}
 
@@ -148,6 +151,12 @@ RegisterRead κs a r e =
     let buffer = a .1 .0 in
     Closes register (now buffer) r
 
+-- ---- the records
+
+-- kf_layout()
+abbrev pub Layout : Statement kf-layout.ended
+Layout κs a r e = r ≡ layoutNumber
+
 -- ---- all of them
 
 -- on every machine each run of the routine returns, nothing being asked of its caller, and the statement holds
@@ -172,3 +181,4 @@ pub record Exported (M : Type 1) : Type 2 where
   pub registerNew : Holds M kf-register-new.ended register-new-code.routine RegisterNew
   pub registerEnter : Holds M kf-register-enter.ended register-enter-code.routine RegisterEnter
   pub registerRead : Holds M kf-register-read.ended register-read-code.routine RegisterRead
+  pub layout : Holds M kf-layout.ended layout-code.routine Layout
