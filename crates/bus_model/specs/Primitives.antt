@@ -4,15 +4,14 @@
 use Prim.Native.Nat.{ℕ, zero, suc, _+_, _-_, _*_}
 use mathlib.Core.List.{List, [], _∷_}
 use mathlib.Core.Bool.{Bool}
-use lib.Dec.{eqb}
 use lib.ListN.{length, set, replicate}
 use Rattle.operation.specs.declared.Operation.{Operation}
 use Rattle.buffers.specs.Parts.{over}
 use Rattle.slots.specs.Slots.{freeSlot, slotOf}
 use Rattle.slots.specs.declared.Slot.{Slot}
-use Rattle.plain_bus.specs.Held.{errorActive, busOff, bufferAndRetransmit}
+use Rattle.plain_bus.specs.Held.{errorActive, bufferAndRetransmit}
 use Rattle.bus_state.specs.Memory.{Memory, slotCount, slotsPerNode, bytesPerSlot, bytesPerQueue, nodeState, slotAt, dataAtSlot}
-use Rattle.bus_state.specs.Entries.{entryFill, entryPending, withEntry}
+use Rattle.bus_state.specs.Entries.{isOff, entryFill, entryPending, withEntry}
 use Rattle.bus_state.specs.declared.State.{State}
 use Rattle.bus_state.specs.declared.NodeState.{NodeState}
 
@@ -22,7 +21,7 @@ abbrev pub entryAt : Memory → ℕ → NodeState
 entryAt m j = nodeState (m .state) j
 
 abbrev pub offAt : Memory → ℕ → Bool
-offAt m j = eqb (entryAt m j .status) busOff
+offAt m j = isOff (entryAt m j)
 
 -- ---- the parts of the memory
 

@@ -7,7 +7,7 @@ use lib.Dec.{leb, ltb, eqb}
 use lib.ListN.{getD}
 use Rattle.slots.specs.Slots.{freeSlot}
 use Rattle.slots.specs.declared.Slot.{Slot}
-use Rattle.bus_state.specs.Memory.{slotsPerNode, nodeState}
+use Rattle.bus_state.specs.Memory.{slotCount, slotsPerNode, nodeState}
 use Rattle.bus_state.specs.Valid.{validEntry, slotFollows}
 use Rattle.bus_state.specs.declared.State.{State}
 use Rattle.bus_state.specs.declared.NodeState.{NodeState}
@@ -19,7 +19,7 @@ use Rattle.scan.specs.declared.Winner.the-variants.{Nobody, First}
 
 -- of a frame of this rank in slot p
 abbrev pub frameKey : ℕ → ℕ → ℕ
-frameKey rank p = rank * 32 + p + 1
+frameKey rank p = rank * slotCount + p + 1
 
 -- above that of every frame
 abbrev pub noFrame : ℕ
@@ -31,7 +31,7 @@ keyOf (First rank owner position) = frameKey rank (slotsPerNode * owner + positi
 
 -- the first slot of the winner's node, by the key; 0 where there is no winner
 unfoldable pub winnerBlock : ℕ → ℕ
-winnerBlock key = cond (eqb key 0 || leb noFrame key) 0 (slotsPerNode * ((key - 1) % 32 / 4))
+winnerBlock key = cond (eqb key 0 || leb noFrame key) 0 (slotsPerNode * ((key - 1) % slotCount / slotsPerNode))
 
 abbrev pub lowerOf : ℕ → ℕ → ℕ
 lowerOf a b = cond (ltb a b) a b
