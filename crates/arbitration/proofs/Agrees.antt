@@ -31,7 +31,8 @@ use Rattle.arbitration.specs.declared.Injection.{Injection}
 use Rattle.arbitration.specs.declared.Injection.the-variants.{NoError, Injected}
 use Rattle.arbitration.specs.Injections.{injectionOf, hasLegalCode}
 use Rattle.scan.specs.Winner.{heldAt}
-use Rattle.arbitration.specs.Owed.{PendingAt, isOff, discards, discarded, newsTo, noticesBut, owedTo, owedLength, roomFrom}
+use Rattle.bus_state.specs.Entries.{isOff}
+use Rattle.arbitration.specs.Owed.{PendingAt, discards, discarded, newsTo, noticesBut, owedTo, owedLength, roomFrom}
 use Rattle.arbitration.proofs.Attached.{count-few, node-at}
 use Rattle.arbitration.proofs.Given.{id-at, tellable}
 use Rattle.arbitration.proofs.Lengths.{owed-length-is}

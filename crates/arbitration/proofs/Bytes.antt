@@ -1,20 +1,14 @@
--- Bytes laid over a part of a buffer, and one run behind the other.
+-- Bytes laid over a buffer, one run behind the other.
 -- Assumes nothing.
 use mathlib.Core.Path.{_≡_, refl, sym, ap, _∙_}
 use mathlib.Core.Bool.{Bool, true, false}
 use mathlib.Core.List.{List, [], _++_, append-assoc, append-nil}
-use Prim.Native.Nat.{ℕ, _+_, _-_, _≤_}
+use Prim.Native.Nat.{ℕ, _+_, _≤_}
 use native.Mathlib.Omega.{arith}
-use native.Mathlib.Nat.{add-zero, zero-add}
+use native.Mathlib.Nat.{add-zero}
 use mir.Val.{boolByte}
-use borrow.Rule.Slice.PartMut.{putMid}
-use lib.ListN.{length, take, drop, length-append, length-drop, take-append-drop}
-use lib.Seq.{take-all, take-at, drop-at, drop-drop, length-take-le, drop-length}
-use Rattle.operation.specs.Format.{dataLength, lengthOf, encode}
-use Rattle.operation.specs.Rules.{legal}
-use Rattle.operation.specs.declared.Operation.{Operation}
-use Rattle.encoder.specs.Writing.{writtenOf}
-use Rattle.encoder.proofs.Answers.{accepts}
+use lib.ListN.{length, take, drop, length-append, take-append-drop}
+use lib.Seq.{take-at, drop-at, drop-drop, length-take-le}
 use Rattle.buffers.specs.Parts.{over}
 use Rattle.arbitration.specs.Owed.{own}
 
@@ -47,17 +41,3 @@ in-two l xs ys at h p q r = rw (r, p, q) (over-over l xs ys at h)
 pub over-none : (l : List ℕ) (at : ℕ) → over l at [] ≡ l
 unfolding over
 over-none l at = rw (append-nil, add-zero) (take-append-drop at l)
-
--- an operation written to the front of what stands behind a position
-pub put-part : (op : Operation) (bytes l r : List ℕ) (at : ℕ) → legal op ≡ true → length bytes ≡ dataLength op → dataLength op ≤ 2_048
-    → at + lengthOf op ≤ length l → r ≡ writtenOf op bytes (take (length l - at) (drop at l))
-    → putMid at (length l - at) l r ≡ over l at (encode op bytes)
-unfolding writtenOf over
-put-part op bytes l r at w n s h e =
-    let rest : take (length l - at) (drop at l) ≡ drop at l = take-all (length l - at) (drop at l) (rw length-drop (omega arith)) in
-    let all : at + (length l - at) ≡ length l = omega arith in
-    let room : lengthOf op ≤ length (drop at l) = rw length-drop (omega arith) in
-    let a = accepts op (length bytes) (length (drop at l)) w n (omega arith) room in
-    let none : drop (length l - at) (drop at l) ≡ [] =
-    drop-drop (length l - at) at l ∙ ap (λ (i : ℕ). drop i l) all ∙ drop-length l in
-    rw (e, rest, a, none, append-nil, drop-drop, zero-add) (sym (append-assoc (take at l) (encode op bytes) (drop (at + length (encode op bytes)) l)))

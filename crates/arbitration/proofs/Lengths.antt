@@ -19,7 +19,8 @@ use Rattle.bus_state.specs.declared.NodeState.{NodeState}
 use Rattle.arbitration.specs.declared.Injection.{Injection}
 use Rattle.arbitration.specs.declared.Injection.the-variants.{NoError, Injected}
 use Rattle.arbitration.specs.Injections.{hasLegalCode}
-use Rattle.arbitration.specs.Owed.{Writable, isOff, toldCount, owedLength, discards, discarded, own, newsTo, noticesBut, owedTo, newsLength, LegalIds, Tellable, PendingAt}
+use Rattle.bus_state.specs.Entries.{isOff}
+use Rattle.arbitration.specs.Owed.{Writable, toldCount, owedLength, discards, discarded, own, newsTo, noticesBut, owedTo, newsLength, LegalIds, Tellable, PendingAt}
 use Rattle.arbitration.proofs.Told.{confirm-length, lost-length, error-length}
 
 pub news-short : (e : Injection) (mine off : Bool) (size : ℕ) → size ≤ 2_070 → newsLength e mine off size ≤ 2_070

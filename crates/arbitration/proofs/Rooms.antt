@@ -18,7 +18,8 @@ use Rattle.bus_state.specs.declared.NodeState.{NodeState}
 use Rattle.arbitration.specs.declared.Injection.{Injection}
 use Rattle.scan.specs.Winner.{entryOf}
 use Rattle.arbitration.specs.Injections.{hasLegalCode}
-use Rattle.arbitration.specs.Owed.{Writable, Tellable, PendingAt, isOff, discarded, newsTo, noticesBut, owedTo, owedLength, roomFrom}
+use Rattle.bus_state.specs.Entries.{isOff}
+use Rattle.arbitration.specs.Owed.{Writable, Tellable, PendingAt, discarded, newsTo, noticesBut, owedTo, owedLength, roomFrom}
 use Rattle.arbitration.proofs.Lengths.{owed-length-is}
 
 module _ (e : Injection) (nodes : List NodeState) (owner size : ℕ) where

@@ -4,9 +4,9 @@ use Prim.Native.Nat.{ℕ}
 use mathlib.Core.Bool.{Bool, true, false, cond, not, _||_}
 use lib.Dec.{ltb, eqb}
 use Rattle.operation.specs.Rules.{oneOf, errorCodes}
-use Rattle.plain_bus.specs.Held.{busOff}
 use Rattle.plain_bus.specs.Round as plain
 use Rattle.bus_state.specs.Memory.{nodeState}
+use Rattle.bus_state.specs.Entries.{isOff}
 use Rattle.bus_state.specs.declared.State.{State}
 use Rattle.arbitration.specs.declared.Injection.{Injection}
 use Rattle.arbitration.specs.declared.Injection.the-variants.{NoError, Injected}
@@ -28,4 +28,4 @@ hasLegalCode (Injected code detector) = oneOf code errorCodes
 unfoldable pub isWrong : State → Injection → Bool
 isWrong s NoError = false
 isWrong s (Injected code detector) =
-    not (oneOf code errorCodes) || not (ltb detector (s .count)) || eqb (nodeState s detector .status) busOff
+    not (oneOf code errorCodes) || not (ltb detector (s .count)) || isOff (nodeState s detector)

@@ -6,15 +6,16 @@ use mathlib.Core.List.{List, [], _++_}
 use mathlib.Core.Bool.{Bool, true, cond, _&&_}
 use lib.Dec.{leb, eqb}
 use lib.ListN.{getD}
-use Rattle.operation.specs.Format.{dataLength, encode}
+use Rattle.operation.specs.Format.{dataLength, lengthOf, encode}
 use Rattle.operation.specs.Kinds.{idOf}
 use Rattle.operation.specs.Rules.{legal, maxExtendedId}
 use Rattle.operation.specs.declared.Operation.{Operation}
 use Rattle.operation.specs.declared.Operation.the-variants.{Confirm, ArbitrationLost, BusError}
 use Rattle.slots.specs.declared.Slot.{Slot}
-use Rattle.plain_bus.specs.Held.{busOff, discardAndNotify}
+use Rattle.plain_bus.specs.Held.{discardAndNotify}
 use Rattle.plain_bus.specs.Round.{primaryErrorFlag, secondaryErrorFlag}
 use Rattle.bus_state.specs.Memory.{slotsPerNode, bytesPerSlot, bytesPerQueue, nodeState}
+use Rattle.bus_state.specs.Entries.{isOff}
 use Rattle.bus_state.specs.declared.State.{State}
 use Rattle.bus_state.specs.declared.NodeState.{NodeState}
 use Rattle.arbitration.specs.declared.Injection.{Injection}
@@ -36,9 +37,6 @@ Frames a from end = (p : ℕ) → from ≤ p → p < end → Writable (heldAt a 
 -- the IDs from one position to another can be written
 abbrev pub LegalIds : List ℕ → ℕ → ℕ → Type 0
 LegalIds ids from end = (p : ℕ) → from ≤ p → p < end → getD ids p 0 ≤ maxExtendedId
-
-abbrev pub isOff : NodeState → Bool
-isOff d = eqb (d .status) busOff
 
 abbrev pub discards : NodeState → Bool
 discards d = eqb (d .behaviour) discardAndNotify
@@ -101,14 +99,24 @@ owedTo e d j owner position op ids bytes =
 
 -- ---- their number
 
+-- of Confirm, Arbitration Lost and Bus Error, whatever their fields
+abbrev pub confirmLength : ℕ
+confirmLength = lengthOf (Confirm 0)
+
+abbrev pub lostLength : ℕ
+lostLength = lengthOf (ArbitrationLost 0)
+
+abbrev pub errorLength : ℕ
+errorLength = lengthOf (BusError 0 0 0 0)
+
 -- of the news, by whether the winner is the node's own and whether the node is Bus-Off
 abbrev pub newsLength : Injection → Bool → Bool → ℕ → ℕ
-newsLength NoError mine off size = cond mine 12 (cond off 0 size)
-newsLength (Injected code detector) mine off size = cond off 0 15
+newsLength NoError mine off size = cond mine confirmLength (cond off 0 size)
+newsLength (Injected code detector) mine off size = cond off 0 errorLength
 
 -- of all that a node is owed; size is the length of the winner's Transmit
 unfoldable pub owedLength : Injection → NodeState → Bool → ℕ → ℕ
-owedLength e d mine size = newsLength e mine (isOff d) size + 12 * toldCount d mine
+owedLength e d mine size = newsLength e mine (isOff d) size + lostLength * toldCount d mine
 
 -- each of n queues from number j on has room for what its node is owed
 unfoldable pub roomFrom : Injection → List NodeState → ℕ → ℕ → ℕ → ℕ → Bool

@@ -6,19 +6,21 @@ ghost use mathlib.Core.List.{List, []};
 ghost use Prim.Native.Nat.{_+_, _-_, _*_, _≤_, _<_};
 ghost use lib.ListN.{length};
 ghost use Rattle.operation.specs.Format.{dataLength, lengthOf, encode};
-ghost use Rattle.operation.specs.Rules.{oneOf, errorCodes, legal, maxExtendedId};
+ghost use Rattle.operation.specs.Rules.{legal, maxExtendedId};
 ghost use Rattle.buffers.specs.Parts.{over};
 ghost use Rattle.slots.specs.Slots.{contentOf, heldIn};
+ghost use Rattle.plain_bus.specs.Held.{lastRound};
 ghost use Rattle.plain_bus.specs.Order.{wins};
 ghost use Rattle.plain_bus.specs.Round.{isErrored};
-ghost use Rattle.bus_state.specs.Memory.{nodeState, held, payloadBytes, queueBytes};
+ghost use Rattle.bus_state.specs.Memory.{nodeState, held, slotCount, slotsPerNode, bytesPerSlot, bytesPerQueue, payloadBytes, queueBytes};
+ghost use Rattle.bus_state.specs.Entries.{isOff};
 ghost use Rattle.bus_model.specs.Round.{pendingAt};
 ghost use Rattle.bus_model.specs.Calls.{arbitrateIn, rounded};
 ghost use Rattle.outcome.specs.Outcome.{endedBy, ended};
 ghost use Rattle.arbitration.specs.Injections.{injectionOf, injectionFrom, hasLegalCode, isWrong};
 ghost use Rattle.scan.specs.Winner.{heldAt, ownerOf};
 ghost use Rattle.arbitration.specs.Drawn.{Drawn, DrawnAt};
-ghost use Rattle.arbitration.specs.Owed.{Writable, Frames, Tellable, PendingAt, isOff, discards, discarded, own, toldCount, stayCount, flagAt, newsTo, noticeOf, newsLength, owedLength, roomFrom};
+ghost use Rattle.arbitration.specs.Owed.{Writable, Frames, Tellable, PendingAt, discards, discarded, own, toldCount, stayCount, flagAt, newsTo, noticeOf, newsLength, owedLength, roomFrom};
 ghost use Rattle.arbitration.specs.After.{entryAfter, stateAfter, queuesAfter, source, blockWithout, payloadWithout};
 ghost use Rattle.arbitration.specs.Round.{carriedOut};
 use bus_state::NodeState;
@@ -45,17 +47,6 @@ pub fn injection_of(injected: u32, code: u32, detector: u32) -> Injection
     Injection::Injected { code, detector }
 }
 
-fn is_error_code(code: u32) -> bool
-    ensures { λ r. ⌜ r ≡ oneOf code errorCodes ⌝ }
-{
-    (code == operation::BIT_ERROR as u32)
-        | (code == operation::BIT_STUFFING_ERROR as u32)
-        | (code == operation::FORM_ERROR as u32)
-        | (code == operation::CRC_ERROR as u32)
-        | (code == operation::ACK_ERROR as u32)
-        | (code == operation::BROKEN_ERROR_FRAME as u32)
-}
-
 // Whether an injection is refused: its code is not in the table, or its node not attached or Bus-Off.
 fn is_wrong(s: State, e: Injection) -> bool
     requires { ⌜ s .count ≤ 8 ⌝ }
@@ -68,7 +59,7 @@ fn is_wrong(s: State, e: Injection) -> bool
                 return true;
             }
             let nodes = s.nodes;
-            !is_error_code(code) | is_off(nodes[detector as usize])
+            !operation::is_error_code(code) | bus_state::is_off(nodes[detector as usize])
         }
     }
 }
@@ -90,7 +81,7 @@ fn is_errored(e: Injection) -> bool
 // The first slot of the winner's node; 0 where there is no winner.
 fn first_slot(best: Winner) -> usize
     requires { ⌜ ownerOf best < 8 ⌝ }
-    ensures { λ r. ⌜ r ≡ 4 * ownerOf best ⌝ }
+    ensures { λ r. ⌜ r ≡ slotsPerNode * ownerOf best ⌝ }
 {
     match best {
         Winner::Nobody => 0,
@@ -98,7 +89,7 @@ fn first_slot(best: Winner) -> usize
             rank: _,
             owner,
             position: _,
-        } => 4 * owner,
+        } => bus_state::SLOTS_PER_NODE * owner,
     }
 }
 
@@ -106,8 +97,8 @@ fn first_slot(best: Winner) -> usize
 
 // Where what stands at i of a node's slots comes from, once the frame at a position is removed.
 fn source(position: usize, last: usize, i: usize) -> usize
-    requires { ⌜ (i < 4) × (last < 4) ⌝ }
-    ensures { λ r. ⌜ (r ≡ source position last i) × (r < 4) ⌝ }
+    requires { ⌜ (i < slotsPerNode) × (last < slotsPerNode) ⌝ }
+    ensures { λ r. ⌜ (r ≡ source position last i) × (r < slotsPerNode) ⌝ }
 {
     if (position <= i) & (i < last) {
         return i + 1;
@@ -117,7 +108,7 @@ fn source(position: usize, last: usize, i: usize) -> usize
 
 // A node's four slots without the frame at a position; what stands behind the last pending one stays.
 fn block_without(four: [Slot; 4], position: usize, last: usize) -> [Slot; 4]
-    requires { ⌜ last < 4 ⌝ }
+    requires { ⌜ last < slotsPerNode ⌝ }
     ensures { λ r. ⌜ r ≡ blockWithout four position last ⌝ }
 {
     let first = four[source(position, last, 0)];
@@ -129,25 +120,24 @@ fn block_without(four: [Slot; 4], position: usize, last: usize) -> [Slot; 4]
 
 // The data of the frames behind a position of the four slots from a slot on, up to the last one's, move down by one slot.
 fn move_data(payload: &mut [u8], four: [Slot; 4], at: usize, position: usize, last: usize)
-    requires { ⌜ (position ≤ last) × (last < 4) × (at + 4 ≤ 32) × (length (now payload) ≡ 65536) ⌝ }
+    requires { ⌜ (position ≤ last) × (last < slotsPerNode) × (at + slotsPerNode ≤ slotCount) × (length (now payload) ≡ payloadBytes) ⌝ }
     requires { ⌜ Frames four position (last + 1) ⌝ }
     ensures { λ _. ⌜ now (payload .exit) ≡ payloadWithout four at position (last - position) (now (payload .entry)) ⌝ }
 {
     let mut q = position;
     while q < last {
         let n = operation::data_length(slots::held_in(four[q + 1])) as usize;
-        buffers::shift(payload, 2048 * (at + q), 2048 * (at + q + 1), n);
+        buffers::shift(
+            payload,
+            bus_state::BYTES_PER_SLOT * (at + q),
+            bus_state::BYTES_PER_SLOT * (at + q + 1),
+            n,
+        );
         q += 1;
     }
 }
 
 // ---- what each node is owed, in bytes
-
-fn is_off(d: NodeState) -> bool
-    ensures { λ r. ⌜ r ≡ isOff d ⌝ }
-{
-    d.status == operation::BUS_OFF
-}
 
 fn discards(d: NodeState) -> bool
     ensures { λ r. ⌜ r ≡ discards d ⌝ }
@@ -194,7 +184,7 @@ fn news_length(e: Injection, mine: bool, off: bool, size: usize) -> usize
     match e {
         Injection::NoError => {
             if mine {
-                return 12;
+                return operation::CONFIRM_LENGTH;
             }
             if off {
                 return 0;
@@ -208,7 +198,7 @@ fn news_length(e: Injection, mine: bool, off: bool, size: usize) -> usize
             if off {
                 return 0;
             }
-            15
+            operation::BUS_ERROR_LENGTH
         }
     }
 }
@@ -218,8 +208,9 @@ fn owed_length(d: NodeState, mine: bool, e: Injection, size: usize) -> usize
     requires { ⌜ (own mine ≤ d .pending) × (size ≤ 2070) ⌝ }
     ensures { λ r. ⌜ r ≡ owedLength e d mine size ⌝ }
 {
-    let off = is_off(d);
-    news_length(e, mine, off, size) + 12 * told_count(d, mine) as usize
+    let off = bus_state::is_off(d);
+    news_length(e, mine, off, size)
+        + operation::ARBITRATION_LOST_LENGTH * told_count(d, mine) as usize
 }
 
 // Whether every queue has room for what its node is owed; size is the length of the winner's Transmit.
@@ -232,7 +223,7 @@ fn has_room(s: State, e: Injection, owner: usize, size: usize) -> bool
     let mut j = 0;
     while j < attached {
         let d = nodes[j];
-        if 4096 < d.fill as usize + owed_length(d, j == owner, e, size) {
+        if bus_state::BYTES_PER_QUEUE < d.fill as usize + owed_length(d, j == owner, e, size) {
             return false;
         }
         j += 1;
@@ -244,7 +235,7 @@ fn has_room(s: State, e: Injection, owner: usize, size: usize) -> bool
 
 // Lays an operation with its data over a buffer from a position on.
 fn put_operation(op: Operation, bytes: &[u8], buffer: &mut [u8], at: usize)
-    requires { ⌜ (legal op ≡ true) × (length (now bytes) ≡ dataLength op) × (dataLength op ≤ 2048) ⌝ }
+    requires { ⌜ (legal op ≡ true) × (length (now bytes) ≡ dataLength op) × (dataLength op ≤ bytesPerSlot) ⌝ }
     requires { ⌜ at + lengthOf op ≤ length (now buffer) ⌝ }
     ensures { λ _. ⌜ now (buffer .exit) ≡ over (now (buffer .entry)) at (encode op (now (bytes .entry))) ⌝ }
 {
@@ -253,7 +244,7 @@ fn put_operation(op: Operation, bytes: &[u8], buffer: &mut [u8], at: usize)
 
 // Lays a Confirm over a buffer from a position on.
 fn put_confirm(id: u32, buffer: &mut [u8], at: usize)
-    requires { ⌜ (legal (Operation.Confirm id) ≡ true) × (at + 12 ≤ length (now buffer)) ⌝ }
+    requires { ⌜ (legal (Operation.Confirm id) ≡ true) × (at + lengthOf (Operation.Confirm id) ≤ length (now buffer)) ⌝ }
     ensures { λ _. ⌜ now (buffer .exit) ≡ over (now (buffer .entry)) at (encode (Operation.Confirm id) []) ⌝ }
 {
     encoder::write_confirm(id, b"", &mut buffer[at..]);
@@ -261,7 +252,7 @@ fn put_confirm(id: u32, buffer: &mut [u8], at: usize)
 
 // Lays a Bus Error over a buffer from a position on.
 fn put_bus_error(id: u32, code: u8, flag: u8, sender: u8, buffer: &mut [u8], at: usize)
-    requires { ⌜ (legal (Operation.BusError id code flag sender) ≡ true) × (at + 15 ≤ length (now buffer)) ⌝ }
+    requires { ⌜ (legal (Operation.BusError id code flag sender) ≡ true) × (at + lengthOf (Operation.BusError id code flag sender) ≤ length (now buffer)) ⌝ }
     ensures { λ _. ⌜ now (buffer .exit) ≡ over (now (buffer .entry)) at (encode (Operation.BusError id code flag sender) []) ⌝ }
 {
     encoder::write_bus_error(id, code, flag, sender, b"", &mut buffer[at..]);
@@ -269,7 +260,7 @@ fn put_bus_error(id: u32, code: u8, flag: u8, sender: u8, buffer: &mut [u8], at:
 
 // Lays an Arbitration Lost over a buffer from a position on.
 fn put_lost(id: u32, buffer: &mut [u8], at: usize)
-    requires { ⌜ (legal (Operation.ArbitrationLost id) ≡ true) × (at + 12 ≤ length (now buffer)) ⌝ }
+    requires { ⌜ (legal (Operation.ArbitrationLost id) ≡ true) × (at + lengthOf (Operation.ArbitrationLost id) ≤ length (now buffer)) ⌝ }
     ensures { λ _. ⌜ now (buffer .exit) ≡ over (now (buffer .entry)) at (encode (Operation.ArbitrationLost id) []) ⌝ }
 {
     encoder::write_arbitration_lost(id, b"", &mut buffer[at..]);
@@ -339,7 +330,7 @@ fn put_notice(id: u32, wins: bool, queues: &mut [u8], at: usize) -> usize
         return at;
     }
     put_lost(id, queues, at);
-    at + 12
+    at + operation::ARBITRATION_LOST_LENGTH
 }
 
 // Writes what a node is told of the winner behind the fill of its queue, and answers the place after it; size is the length of the
@@ -357,19 +348,19 @@ fn tell(
     requires { ⌜ j < 8 ⌝ }
     requires { ⌜ Writable (heldIn (contentOf winner)) ⌝ }
     requires { ⌜ (hasLegalCode e ≡ true) × (length (now bytes) ≡ dataLength (heldIn (contentOf winner))) × (size ≡ lengthOf (heldIn (contentOf winner))) ⌝ }
-    requires { ⌜ 4096 * j + d .fill + length (newsTo e j owner (isOff d) (heldIn (contentOf winner)) (now bytes)) ≤ length (now queues) ⌝ }
-    ensures { λ r. ⌜ r ≡ 4096 * j + d .fill + length (newsTo e j owner (isOff d) (heldIn (contentOf winner)) (now (bytes .entry))) ⌝ }
-    ensures { λ _. ⌜ now (queues .exit) ≡ over (now (queues .entry)) (4096 * j + d .fill) (newsTo e j owner (isOff d) (heldIn (contentOf winner)) (now (bytes .entry))) ⌝ }
+    requires { ⌜ bytesPerQueue * j + d .fill + length (newsTo e j owner (isOff d) (heldIn (contentOf winner)) (now bytes)) ≤ length (now queues) ⌝ }
+    ensures { λ r. ⌜ r ≡ bytesPerQueue * j + d .fill + length (newsTo e j owner (isOff d) (heldIn (contentOf winner)) (now (bytes .entry))) ⌝ }
+    ensures { λ _. ⌜ now (queues .exit) ≡ over (now (queues .entry)) (bytesPerQueue * j + d .fill) (newsTo e j owner (isOff d) (heldIn (contentOf winner)) (now (bytes .entry))) ⌝ }
 {
-    let off = is_off(d);
-    let at = 4096 * j + d.fill as usize;
+    let off = bus_state::is_off(d);
+    let at = bus_state::BYTES_PER_QUEUE * j + d.fill as usize;
     put_news(e, j, owner, off, winner, bytes, queues, at);
     at + news_length(e, j == owner, off, size)
 }
 
 // A node's entry after the round.
 fn entry_after(d: NodeState, mine: bool, e: Injection, size: usize) -> NodeState
-    requires { ⌜ (own mine ≤ d .pending) × (size ≤ 2070) × (d .fill + owedLength e d mine size ≤ 4096) ⌝ }
+    requires { ⌜ (own mine ≤ d .pending) × (size ≤ 2070) × (d .fill + owedLength e d mine size ≤ bytesPerQueue) ⌝ }
     ensures { λ r. ⌜ r ≡ entryAfter e d mine size ⌝ }
 {
     let fill = d.fill + owed_length(d, mine, e, size) as u16;
@@ -389,7 +380,7 @@ fn tell_all(
     bytes: &[u8],
     queues: &mut [u8],
 ) -> State
-    requires { ⌜ (s .round < 4294967295) × (hasLegalCode e ≡ true) × Tellable s ids ⌝ }
+    requires { ⌜ (s .round < lastRound) × (hasLegalCode e ≡ true) × Tellable s ids ⌝ }
     requires { ⌜ PendingAt s owner position ⌝ }
     requires { ⌜ Writable (heldIn (contentOf winner)) × (length (now bytes) ≡ dataLength (heldIn (contentOf winner))) × (size ≡ lengthOf (heldIn (contentOf winner))) ⌝ }
     requires { ⌜ (roomFrom e (s .nodes) owner size 0 (s .count) ≡ true) × (length (now queues) ≡ queueBytes) ⌝ }
@@ -397,13 +388,13 @@ fn tell_all(
     ensures { λ _. ⌜ now (queues .exit) ≡ queuesAfter e (s .nodes) owner position (heldIn (contentOf winner)) ids (now (bytes .entry)) 0 (s .count) (now (queues .entry)) ⌝ }
 {
     let count = s.count as usize;
-    let slot = 4 * owner + position;
+    let slot = bus_state::SLOTS_PER_NODE * owner + position;
     let mut after = s.nodes;
     let mut j = 0;
     while j < count {
         let d = after[j];
         let mut to = tell(d, j, e, owner, size, winner, bytes, queues);
-        let mut p = 4 * j;
+        let mut p = bus_state::SLOTS_PER_NODE * j;
         let end = p + discarded(d) as usize;
         while p < end {
             to = put_notice(ids[p], p == slot, queues, to);
@@ -437,16 +428,16 @@ fn carry_out(
     size: usize,
 ) -> Change
     requires { ⌜ ((a : List Slot) × DrawnAt s a owner position four ids) ⌝ }
-    requires { ⌜ (s .round < 4294967295) × (hasLegalCode e ≡ true) ⌝ }
+    requires { ⌜ (s .round < lastRound) × (hasLegalCode e ≡ true) ⌝ }
     requires { ⌜ (size ≡ lengthOf (heldAt four position)) × (roomFrom e (s .nodes) owner size 0 (s .count) ≡ true) ⌝ }
     requires { ⌜ (length (now payload) ≡ payloadBytes) × (length (now queues) ≡ queueBytes) ⌝ }
     ensures { λ r. ⌜ ((a : List Slot) → DrawnAt s a owner position four ids → endedBy r a (now (payload .exit)) (now (queues .exit)) ≡ ended (carriedOut (held s a (now (payload .entry)) (now (queues .entry))) (injectionOf e) (pendingAt (held s a (now (payload .entry)) (now (queues .entry))) owner position))) ⌝ }
-    ensures { λ r. ⌜ r .at ≡ 4 * owner ⌝ }
+    ensures { λ r. ⌜ r .at ≡ slotsPerNode * owner ⌝ }
 {
     let d = bus_state::entry(s, owner);
-    let at = 4 * owner;
+    let at = bus_state::SLOTS_PER_NODE * owner;
     let winner = four[position];
-    let from = 2048 * (at + position);
+    let from = bus_state::BYTES_PER_SLOT * (at + position);
     let to = from + operation::data_length(slots::held_in(winner)) as usize;
     let state = tell_all(
         s,
@@ -491,7 +482,7 @@ fn arbitrate(
     requires { ⌜ hasLegalCode e ≡ true ⌝ }
     requires { ⌜ (length (now payload) ≡ payloadBytes) × (length (now queues) ≡ queueBytes) ⌝ }
     ensures { λ r. ⌜ ((a : List Slot) → DrawnAt s a owner position four ids → endedBy r a (now (payload .exit)) (now (queues .exit)) ≡ ended (arbitrateIn (held s a (now (payload .entry)) (now (queues .entry))) (injectionOf e) (wins (pendingAt (held s a (now (payload .entry)) (now (queues .entry))) owner position)))) ⌝ }
-    ensures { λ r. ⌜ r .at ≡ 4 * owner ⌝ }
+    ensures { λ r. ⌜ r .at ≡ slotsPerNode * owner ⌝ }
 {
     let op = slots::held_in(four[position]);
     let size = operation::head_length(op) + operation::data_length(op) as usize;
@@ -499,7 +490,7 @@ fn arbitrate(
         return Change {
             outcome: Outcome::QueueFull,
             state: s,
-            at: 4 * owner,
+            at: bus_state::SLOTS_PER_NODE * owner,
             block: four,
         };
     }
@@ -507,7 +498,7 @@ fn arbitrate(
         return Change {
             outcome: Outcome::RoundsUsedUp,
             state: s,
-            at: 4 * owner,
+            at: bus_state::SLOTS_PER_NODE * owner,
             block: four,
         };
     }
@@ -528,8 +519,8 @@ pub fn round(
     requires { ⌜ ((a : List Slot) × Drawn s a best four ids) ⌝ }
     requires { ⌜ (length (now payload) ≡ payloadBytes) × (length (now queues) ≡ queueBytes) ⌝ }
     ensures { λ r. ⌜ ((a : List Slot) → Drawn s a best four ids → endedBy r a (now (payload .exit)) (now (queues .exit)) ≡ ended (rounded (held s a (now (payload .entry)) (now (queues .entry))) (injectionOf e))) ⌝ }
-    ensures { λ r. ⌜ r .at ≡ 4 * ownerOf best ⌝ }
-    ensures { λ r. ⌜ r .at + 4 ≤ 32 ⌝ }
+    ensures { λ r. ⌜ r .at ≡ slotsPerNode * ownerOf best ⌝ }
+    ensures { λ r. ⌜ r .at + slotsPerNode ≤ slotCount ⌝ }
 {
     let at = first_slot(best);
     if is_wrong(s, e) {

@@ -61,7 +61,6 @@ pub over-grown : (at n : ℕ) (xs l : List ℕ) → at + n + length xs ≤ lengt
 over-grown at n xs l h =
     rw (part-add at n (length xs) (over l (at + n) xs), over-before (at + n) xs l h at n (omega arith), over-same (at + n) xs l h)
 
--- where some of a part are laid over the bytes before it, the next one is still where it was
 -- an entry of a part
 pub part-at : (d : List ℕ) (from n i : ℕ) → i < n → getD (part from n d) i 0 ≡ getD d (from + i) 0
 unfolding part

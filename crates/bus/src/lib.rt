@@ -25,6 +25,17 @@ const PAYLOAD_BYTES: usize = 65536;
 
 const QUEUE_BYTES: usize = 32768;
 
+// What a node starts with.
+const START_STATUS: u8 = operation::ERROR_ACTIVE;
+
+const START_BEHAVIOUR: u8 = operation::BUFFER_AND_RETRANSMIT as u8;
+
+const START_CAN_RATE: u32 = 500_000;
+
+const START_FD_RATE: u32 = 2_000_000;
+
+const START_XL_RATE: u32 = 10_000_000;
+
 // The outcome of a start, with the state and all slots after it.
 pub struct Started {
     pub outcome: Outcome,
@@ -42,10 +53,10 @@ fn new_entry() -> NodeState
     ensures { λ r. ⌜ r ≡ newEntry ⌝ }
 {
     NodeState {
-        rates: [500_000, 2_000_000, 10_000_000],
+        rates: [START_CAN_RATE, START_FD_RATE, START_XL_RATE],
         fill: 0,
-        status: operation::ERROR_ACTIVE,
-        behaviour: operation::BUFFER_AND_RETRANSMIT as u8,
+        status: START_STATUS,
+        behaviour: START_BEHAVIOUR,
         pending: 0,
     }
 }

@@ -1,4 +1,4 @@
--- A call that is refused hands back the memory as it was, whatever it was, and leaves the caller's buffer; a start changes no payload
+-- A call that is refused hands back the memory as it was, whatever it was; a start changes no payload
 -- and no queue byte; refusals 1 and 3 are given before any other.
 -- Assumes nothing.
 use mathlib.Core.Path.{_≡_, refl}
@@ -13,13 +13,13 @@ use Rattle.plain_bus.specs.Held.{lastRound}
 use Rattle.plain_bus.specs.Refusal.{badNodeCount, invalid, notAttached, bufferTooLong, badInjection, queueFull, roundsUsedUp, roomTooSmall}
 use Rattle.plain_bus.specs.Order.{Entry, Winner, nobody, wins}
 use Rattle.plain_bus.specs.Round.{Injection, isErrored, winnerId}
-use Rattle.plain_bus.specs.Calls.{refused, accepted, idle, carried, collected, maxSubmit}
-use Rattle.bus_state.specs.Memory.{Memory, lentWell}
+use Rattle.plain_bus.specs.Calls.{accepted, carried, collected, maxSubmit}
+use Rattle.bus_state.specs.Memory.{Memory, lentWell, lentWell}
 use Rattle.bus_state.specs.Valid.{validState}
 use Rattle.bus_model.specs.Primitives.{entryAt, emptyQueue, startMemory}
 use Rattle.bus_model.specs.Submit.{Progress, goesOn, stops, roomForEach, itemsIn}
 use Rattle.bus_model.specs.Round.{winnerIn, owedAt, afterRoundIn}
-use Rattle.bus_model.specs.Calls.{Reply, wrongMemory, answers, replyDone, Result, replies, refusing, checked, attachedIn, noStart, startIn, takenIn, submitted, submitIn, wrongInjectionIn, arbitrateIn, rounded, roundIn, queueAt, collection, collectIn, bufferAfter}
+use Rattle.bus_model.specs.Calls.{wrongMemory, replyDone, Result, replies, refusing, checked, attachedIn, noStart, startIn, takenIn, submitted, submitIn, wrongInjectionIn, arbitrateIn, rounded, roundIn, queueAt, collection, collectIn}
 
 -- ---- 1 and 3
 
@@ -89,15 +89,6 @@ collect-kept m k room = checked-kept m (collection m k room) (go (attachedIn m k
     go false b = λ e. refl
     go true true = λ e. refl
     go true false = λ e. done-kept e
-
--- the caller's buffer
-pub buffer-kept : (r : Reply) (buffer : List ℕ) → replyDone r ≡ false → bufferAfter r buffer ≡ buffer
-buffer-kept wrongMemory buffer e = refl
-buffer-kept (answers (refused r)) buffer e = refl
-buffer-kept (answers accepted) buffer e = refl
-buffer-kept (answers idle) buffer e = refl
-buffer-kept (answers (carried sender id errored age)) buffer e = refl
-buffer-kept (answers (collected bytes)) buffer e = done-kept e
 
 -- ---- start
 

@@ -3,7 +3,7 @@
 use mathlib.Core.Path.{_≡_, refl, sym, _∙_}
 use Prim.Native.Nat.{ℕ, zero, suc, _≤_, _<_}
 use native.Mathlib.Omega.{arith}
-use mathlib.Core.Bool.{true, false, _&&_}
+use mathlib.Core.Bool.{true, _&&_}
 use lib.Dec.{leb, eqb}
 use lib.ListN.{length, getD, replicate, length-replicate, getD-replicate}
 use borrow.Author.Tests.{leb-true, eqb-true}
@@ -14,9 +14,9 @@ use Rattle.plain_bus.specs.Held.{newNode, newBus}
 use Rattle.plain_bus.specs.Calls.{accepted, gives, start}
 use Rattle.plain_bus.proofs.Preserved.{start-valid}
 use Rattle.buffers.specs.Parts.{part}
-use Rattle.bus_state.specs.Memory.{Memory, noNode, slotAt, framesFrom, nodeView, nodesFrom, view, lentWell}
+use Rattle.bus_state.specs.Memory.{Memory, noNode, slotAt, framesFrom, nodeView, view, lentWell, lentWell}
 use Rattle.bus_model.specs.Primitives.{entryAt, newEntry, newState, startMemory}
-use Rattle.bus_model.specs.Calls.{answers, replies, startIn}
+use Rattle.bus_model.specs.Calls.{replies, startIn}
 use Rattle.bus_model.specs.Refines.{Sized, Refines}
 use Rattle.bus_model.proofs.Buses.{view-is}
 use Rattle.bus_model.proofs.Validity.{Good}
@@ -83,9 +83,3 @@ unfolding startIn start
 start-refines m count lent e =
     let a = both (leb 2 count) (leb count 8) e in
     rw (lent, e) (start-accepted m count (leb-true 2 count (a .0)) (leb-true count 8 (a .1)) lent)
-
--- a start that is refused by 2 has the plain one's answer and view
-pub start-refused : (m : Memory) (count : ℕ) → lentWell m ≡ true → (leb 2 count && leb count 8) ≡ false
-    → (startIn m count .reply ≡ answers (start count .answer)) × (view (startIn m count .memory) ≡ start count .bus)
-unfolding startIn start view nodesFrom newState
-start-refused m count lent e = rw (lent, e) (refl, refl)

@@ -2,17 +2,16 @@
 -- of a removed frame, and those of a queue past its fill.
 -- Assumes nothing.
 use Prim.Native.Nat.{ℕ, zero, suc, _+_, _-_, _*_}
-use mathlib.Core.List.{List, [], _∷_}
+use mathlib.Core.List.{List}
 use mathlib.Core.Bool.{Bool}
-use lib.Dec.{eqb}
 use lib.ListN.{length, set, replicate}
 use Rattle.operation.specs.declared.Operation.{Operation}
 use Rattle.buffers.specs.Parts.{over}
 use Rattle.slots.specs.Slots.{freeSlot, slotOf}
 use Rattle.slots.specs.declared.Slot.{Slot}
-use Rattle.plain_bus.specs.Held.{errorActive, busOff, bufferAndRetransmit}
+use Rattle.plain_bus.specs.Held.{newNode}
 use Rattle.bus_state.specs.Memory.{Memory, slotCount, slotsPerNode, bytesPerSlot, bytesPerQueue, nodeState, slotAt, dataAtSlot}
-use Rattle.bus_state.specs.Entries.{entryFill, entryPending, withEntry}
+use Rattle.bus_state.specs.Entries.{isOff, entryFill, entryPending, withEntry}
 use Rattle.bus_state.specs.declared.State.{State}
 use Rattle.bus_state.specs.declared.NodeState.{NodeState}
 
@@ -22,7 +21,7 @@ abbrev pub entryAt : Memory → ℕ → NodeState
 entryAt m j = nodeState (m .state) j
 
 abbrev pub offAt : Memory → ℕ → Bool
-offAt m j = eqb (entryAt m j .status) busOff
+offAt m j = isOff (entryAt m j)
 
 -- ---- the parts of the memory
 
@@ -100,14 +99,7 @@ inTurn change j (suc n) m = inTurn change (suc j) n (change m j)
 -- ---- the start
 
 abbrev pub newEntry : NodeState
-newEntry =
-    record {
-      rates = 500_000 ∷ 2_000_000 ∷ 10_000_000 ∷ [];
-      fill = 0;
-      status = errorActive;
-      behaviour = bufferAndRetransmit;
-      pending = 0;
-    }
+newEntry = record { rates = newNode .rates; fill = 0; status = newNode .status; behaviour = newNode .behaviour; pending = 0 }
 
 unfoldable pub newState : ℕ → State
 newState count = record { count = count; round = 0; nodes = replicate 8 newEntry }

@@ -1,6 +1,5 @@
--- Any call of a session on the state and the lent memory, and a list of them.
+-- Any call of a session on the state and the lent memory.
 -- Assumes nothing.
-use mathlib.Core.List.{List, [], _∷_}
 use Rattle.operation.specs.Number.{Bytes}
 use Rattle.plain_bus.specs.Session.{Call, submission, round, collection}
 use Rattle.bus_state.specs.Memory.{Memory}
@@ -11,16 +10,8 @@ callIn m (submission k buffer) = submitIn m k buffer
 callIn m (round e) = roundIn m e
 callIn m (collection k room) = collectIn m k room
 
-unfoldable pub callsIn : List Call → Memory → Memory
-callsIn [] m = m
-callsIn (c ∷ cs) m = callsIn cs (callIn m c .memory)
-
 -- a submitted buffer holds bytes
 abbrev pub ByteCall : Call → Type 0
 ByteCall (submission k buffer) = Bytes buffer
 ByteCall (round e) = Unit {0}
 ByteCall (collection k room) = Unit {0}
-
-abbrev pub ByteCalls : List Call → Type 0
-ByteCalls [] = Unit {0}
-ByteCalls (c ∷ cs) = ByteCall c × ByteCalls cs

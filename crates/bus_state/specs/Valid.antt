@@ -8,8 +8,8 @@ use lib.ListN.{getD}
 use Rattle.operation.specs.Rules.{oneOf, statuses, behaviours}
 use Rattle.slots.specs.Slots.{freeSlot, contentOf, legalContent}
 use Rattle.slots.specs.declared.Slot.{Slot}
-use Rattle.plain_bus.specs.Held.{busOff}
 use Rattle.bus_state.specs.Memory.{slotsPerNode, bytesPerQueue, nodeState}
+use Rattle.bus_state.specs.Entries.{isOff}
 use Rattle.bus_state.specs.declared.State.{State}
 use Rattle.bus_state.specs.declared.NodeState.{NodeState}
 
@@ -37,7 +37,7 @@ validEntry d =
     && nonZero (d .rates)
     && leb (d .fill) bytesPerQueue
     && leb (d .pending) slotsPerNode
-    && (not (eqb (d .status) busOff) || eqb (d .pending) 0)
+    && (not (isOff d) || eqb (d .pending) 0)
 
 unfoldable pub validNode : ℕ → ℕ → NodeState → List Slot → Bool
 validNode now j d slots = validEntry d && validSlots (d .pending) (slotsPerNode * j) j 0 now slots

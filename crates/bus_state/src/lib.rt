@@ -1,10 +1,9 @@
 // The state of the bus, which goes in and comes back by value, beside the lent memory: slots, payload bytes, queue bytes.
 ghost use mathlib.Core.Path.{_≡_};
 ghost use Prim.Native.Nat.{_<_};
-ghost use Rattle.operation.specs.Rules.{oneOf, behaviours};
 ghost use lib.ListN.{set};
 ghost use Rattle.bus_state.specs.Memory.{nodeState};
-ghost use Rattle.bus_state.specs.Entries.{withEntry, entryStatus, entryBehaviour, entryRates, entryFill, entryPending};
+ghost use Rattle.bus_state.specs.Entries.{withEntry, entryStatus, entryBehaviour, entryRates, entryFill, entryPending, isOff};
 ghost use Rattle.bus_state.specs.Valid.{nonZero, validEntry};
 ghost use Rattle.bus_state.specs.Follows.{slotFollows};
 use slots::Slot;
@@ -27,16 +26,26 @@ pub struct State {
     pub nodes: [NodeState; 8],
 }
 
-// What one node has of the lent memory.
-pub const SLOTS_PER_NODE: u8 = 4;
+// The most nodes, and of one node the most pending frames, and bytes in its queue.
+pub const MAX_NODES: u32 = 8;
+
+pub const MAX_PENDING: u8 = 4;
 
 pub const QUEUE_CAPACITY: u16 = 4096;
 
-// The behaviours are those of a Configuration.
-fn is_behaviour(x: u8) -> bool
-    ensures { λ r. ⌜ r ≡ oneOf x behaviours ⌝ }
+// How many slots there are, and what one node and one slot have of the lent memory.
+pub const SLOT_COUNT: usize = 32;
+
+pub const SLOTS_PER_NODE: usize = MAX_PENDING as usize;
+
+pub const BYTES_PER_QUEUE: usize = QUEUE_CAPACITY as usize;
+
+pub const BYTES_PER_SLOT: usize = 2048;
+
+pub fn is_off(d: NodeState) -> bool
+    ensures { λ r. ⌜ r ≡ isOff d ⌝ }
 {
-    (x as u32 == operation::BUFFER_AND_RETRANSMIT) | (x as u32 == operation::DISCARD_AND_NOTIFY)
+    d.status == operation::BUS_OFF
 }
 
 fn are_non_zero(rates: [u32; 3]) -> bool
@@ -52,7 +61,7 @@ pub fn entry_is_valid(d: NodeState) -> bool
     if !operation::status_is_legal(d.status) {
         return false;
     }
-    if !is_behaviour(d.behaviour) {
+    if !operation::is_behaviour(d.behaviour as u32) {
         return false;
     }
     let rates = d.rates;
@@ -62,10 +71,10 @@ pub fn entry_is_valid(d: NodeState) -> bool
     if QUEUE_CAPACITY < d.fill {
         return false;
     }
-    if SLOTS_PER_NODE < d.pending {
+    if MAX_PENDING < d.pending {
         return false;
     }
-    (d.status != operation::BUS_OFF) | (d.pending == 0)
+    !is_off(d) | (d.pending == 0)
 }
 
 // Whether a frame of this node may stand behind one that was accepted at round low. That its own round is not to come is asked of a

@@ -1,7 +1,7 @@
 -- Laws of numbers as bytes, over the width: a byte at a time; a number's bytes give it back; the bytes that a number was
 -- read from are its bytes; a number stands where its bytes stand.
 -- Assumes nothing.
-use mathlib.Core.Path.{_≡_, refl, sym, ap, _∙_, subst}
+use mathlib.Core.Path.{_≡_, refl, subst}
 use mathlib.Core.Bool.{Bool, true, false}
 use mathlib.Core.List.{List, [], _∷_, _++_}
 use Prim.Native.Nat.{ℕ, zero, suc, _+_, _*_, _/_, _%_, _^_, _≤_, _<_}
@@ -52,10 +52,6 @@ number-back (suc w) x h =
     let e = number-back w (x / 256) (omega arith) in
     omega arith
 
-pub littleEndian-length : (w x : ℕ) → length (littleEndian w x) ≡ w
-littleEndian-length zero x = refl
-littleEndian-length (suc w) x = ap suc (littleEndian-length w (x / 256))
-
 pub take-bytes : (n : ℕ) (s : List ℕ) → Bytes s → Bytes (take n s)
 take-bytes zero s w = tt
 take-bytes (suc n) [] w = tt
@@ -65,10 +61,6 @@ pub drop-bytes : (n : ℕ) (s : List ℕ) → Bytes s → Bytes (drop n s)
 drop-bytes zero s w = w
 drop-bytes (suc n) [] w = tt
 drop-bytes (suc n) (b ∷ s) w = drop-bytes n s (w .1)
-
-pub append-bytes : (s t : List ℕ) → Bytes s → Bytes t → Bytes (s ++ t)
-append-bytes [] t u w = w
-append-bytes (b ∷ s) t u w = (u .0, append-bytes s t (u .1) w)
 
 -- a byte of a list of bytes; past the end it is 0
 pub byte-small : (s : List ℕ) (i : ℕ) → Bytes s → getD s i 0 < 256

@@ -49,6 +49,17 @@ pub const BUFFER_AND_RETRANSMIT: u32 = 1;
 
 pub const DISCARD_AND_NOTIFY: u32 = 2;
 
+// Lengths: of operations without data, and of a Format Error but for the bytes that it answers.
+pub const CONFIRM_LENGTH: usize = 12;
+
+pub const ARBITRATION_LOST_LENGTH: usize = 12;
+
+pub const BUS_ERROR_LENGTH: usize = 15;
+
+pub const WAKEUP_LENGTH: usize = 8;
+
+pub const FORMAT_ERROR_HEAD: usize = 10;
+
 pub enum Operation {
     FormatError {
         n: u16,
@@ -157,7 +168,7 @@ pub fn head_length(op: Operation) -> usize
     ensures { λ r. ⌜ (r ≡ headLength op) × (r ≤ 22) ⌝ }
 {
     match op {
-        Operation::FormatError { n: _ } => 10,
+        Operation::FormatError { n: _ } => FORMAT_ERROR_HEAD,
         Operation::CanTransmit {
             id: _,
             ide: _,
@@ -180,17 +191,17 @@ pub fn head_length(op: Operation) -> usize
             af: _,
             dl: _,
         } => 22,
-        Operation::Confirm { id: _ } => 12,
-        Operation::ArbitrationLost { id: _ } => 12,
+        Operation::Confirm { id: _ } => CONFIRM_LENGTH,
+        Operation::ArbitrationLost { id: _ } => ARBITRATION_LOST_LENGTH,
         Operation::BusError {
             id: _,
             error_code: _,
             error_flag: _,
             is_sender: _,
-        } => 15,
+        } => BUS_ERROR_LENGTH,
         Operation::Configuration { kind, value: _ } => configuration_length(kind),
         Operation::Status { status: _ } => 9,
-        Operation::Wakeup => 8,
+        Operation::Wakeup => WAKEUP_LENGTH,
     }
 }
 
@@ -224,15 +235,16 @@ fn is_fd_length(dl: u16) -> bool
         | (dl == 64)
 }
 
-fn is_error_code(x: u8) -> bool
+// Of any number, for an injected error too.
+pub fn is_error_code(x: u32) -> bool
     ensures { λ r. ⌜ r ≡ oneOf x errorCodes ⌝ }
 {
-    (x == BIT_ERROR)
-        | (x == BIT_STUFFING_ERROR)
-        | (x == FORM_ERROR)
-        | (x == CRC_ERROR)
-        | (x == ACK_ERROR)
-        | (x == BROKEN_ERROR_FRAME)
+    (x == BIT_ERROR as u32)
+        | (x == BIT_STUFFING_ERROR as u32)
+        | (x == FORM_ERROR as u32)
+        | (x == CRC_ERROR as u32)
+        | (x == ACK_ERROR as u32)
+        | (x == BROKEN_ERROR_FRAME as u32)
 }
 
 fn is_error_flag(x: u8) -> bool
@@ -241,7 +253,7 @@ fn is_error_flag(x: u8) -> bool
     (x == PRIMARY_ERROR_FLAG) | (x == SECONDARY_ERROR_FLAG)
 }
 
-fn is_behaviour(x: u32) -> bool
+pub fn is_behaviour(x: u32) -> bool
     ensures { λ r. ⌜ r ≡ oneOf x behaviours ⌝ }
 {
     (x == BUFFER_AND_RETRANSMIT) | (x == DISCARD_AND_NOTIFY)
@@ -279,7 +291,7 @@ pub fn id_is_legal(id: u32) -> bool
 pub fn bus_error_is_legal(id: u32, code: u8, flag: u8, sender: u8) -> bool
     ensures { λ r. ⌜ r ≡ legal (Operation.BusError id code flag sender) ⌝ }
 {
-    (id <= MAX_EXTENDED_ID) & is_error_code(code) & is_error_flag(flag) & is_bit(sender)
+    (id <= MAX_EXTENDED_ID) & is_error_code(code as u32) & is_error_flag(flag) & is_bit(sender)
 }
 
 // What a Configuration carries: a behaviour, or a baud rate that is not 0.
@@ -303,41 +315,4 @@ pub fn status_is_legal(status: u8) -> bool
     ensures { λ r. ⌜ r ≡ legal (Operation.Status status) ⌝ }
 {
     (status == ERROR_ACTIVE) | (status == ERROR_PASSIVE) | (status == BUS_OFF)
-}
-
-// Whether an operation meets its content rules.
-pub fn is_legal(op: Operation) -> bool
-    ensures { λ r. ⌜ r ≡ legal op ⌝ }
-{
-    match op {
-        Operation::FormatError { n: _ } => true,
-        Operation::CanTransmit { id, ide, rtr, dl } => can_is_legal(id, ide, rtr, dl),
-        Operation::FdTransmit {
-            id,
-            ide,
-            brs,
-            esi,
-            dl,
-        } => fd_is_legal(id, ide, brs, esi, dl),
-        Operation::XlTransmit {
-            id,
-            ide,
-            sec,
-            sdt,
-            vcid,
-            af,
-            dl,
-        } => xl_is_legal(id, ide, sec, sdt, vcid, af, dl),
-        Operation::Confirm { id } => id_is_legal(id),
-        Operation::ArbitrationLost { id } => id_is_legal(id),
-        Operation::BusError {
-            id,
-            error_code,
-            error_flag,
-            is_sender,
-        } => bus_error_is_legal(id, error_code, error_flag, is_sender),
-        Operation::Configuration { kind, value } => configuration_is_legal(kind, value),
-        Operation::Status { status } => status_is_legal(status),
-        Operation::Wakeup => true,
-    }
 }

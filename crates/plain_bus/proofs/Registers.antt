@@ -16,7 +16,7 @@ use Rattle.operation.specs.Kinds.{idOf}
 use Rattle.plain_bus.specs.Closing.{closes}
 use Rattle.plain_bus.specs.Held.{maxPending, queueCapacity, busOff}
 use Rattle.plain_bus.specs.Refusal.{invalidRegister, registerFull, registerDiffers}
-use Rattle.plain_bus.specs.Register.{Register, maxOpen, withOpened, newRegister, noneAbove, validRegister, Update, updated, rejected, updates, openId, withOff, noteStatus, enterItem, enter, isOpen, remove, closeId, readItem, read}
+use Rattle.plain_bus.specs.Register.{Register, maxOpen, withOpened, noneAbove, validRegister, Update, updated, rejected, updates, openId, withOff, noteStatus, enterItem, enter, isOpen, remove, closeId, readItem, read}
 use Rattle.plain_bus.proofs.Whole.{ValidItem, ValidItems, items-valid}
 use Rattle.plain_bus.proofs.Owed.{read-id}
 
@@ -176,8 +176,3 @@ enter-valid r buffer e = kept-by enterItem enter-fits r buffer e
 pub read-valid : (r : Register) (buffer : List ℕ) {r′ : Register} → read r buffer ≡ updated r′ → validRegister r′ ≡ true
 unfolding read
 read-valid r buffer e = kept-by readItem read-fits r buffer e
-
--- a new register is valid
-pub new-valid : validRegister newRegister ≡ true
-unfolding validRegister noneAbove
-new-valid = refl

@@ -2,17 +2,17 @@
 -- the age, what is removed and what is queued.
 -- Assumes nothing.
 use mathlib.Core.Path.{_≡_, refl, ap, _∙_}
-use Prim.Native.Nat.{ℕ, zero, suc, _+_, _<_}
+use Prim.Native.Nat.{ℕ, _+_, _<_}
 use native.Mathlib.Omega.{arith}
 use mathlib.Core.Bool.{Bool, true, false}
-use mathlib.Core.List.{List, [], _∷_, _++_}
+use mathlib.Core.List.{[], _++_}
 use lib.ListN.{length}
 use borrow.Author.Tests.{eq-eqb, ne-eqb, le-leb, lt-leb}
-use Rattle.plain_bus.specs.Held.{Frame, Node, Bus, lastRound, discards, nodeAt, allHaveRoom}
+use Rattle.plain_bus.specs.Held.{Node, Bus, lastRound, discards, nodeAt, allHaveRoom}
 use Rattle.plain_bus.specs.Refusal.{Refusal, roundsUsedUp}
 use Rattle.plain_bus.specs.Order.{Entry, wins, winner}
 use Rattle.plain_bus.specs.Round.{Injection, isErrored, winnerId, without, losers, stay, owed, settle, afterRound, age}
-use Rattle.plain_bus.specs.Calls.{refused, idle, carried, answerNumber, Outcome, gives, refuses, wrongInjection, arbitrate, runRound}
+use Rattle.plain_bus.specs.Calls.{refused, idle, carried, Outcome, gives, refuses, wrongInjection, arbitrate, runRound}
 use Rattle.plain_bus.proofs.ValidBus.{Valid}
 use Rattle.plain_bus.specs.Session.{Call, round, call}
 use Rattle.plain_bus.proofs.Nodes.{each-at}
@@ -57,9 +57,6 @@ module _ (b : Bus) (e : Injection) (w : Entry) (l : wrongInjection b e ≡ false
   pub round-last : b .round ≡ 4_294_967_295 → call b (round e) ≡ refuses roundsUsedUp b
   unfolding call runRound arbitrate
   round-last h = rw (l, q, room, le-leb lastRound (b .round) (omega arith))
-
-  pub round-last-number : b .round ≡ 4_294_967_295 → answerNumber (call b (round e) .answer) ≡ 10
-  round-last-number h = ap (λ (o : Outcome). answerNumber (o .answer)) (round-last h)
 
 -- there was a winner; the answer names its node, its ID, whether an error was injected, and its age; the bus is that after
 -- the round
@@ -127,10 +124,3 @@ module _ (b : Bus) (e : Injection) (w : Entry) where
       → nodeAt (afterRound e w b) j .pending ≡ nodeAt b j .pending
   unfolding stay losers
   losers-wait j h n t = round-pending j h ∙ rw (t, ne-eqb j (w .owner) n)
-
--- the list without one of its frames is one shorter
-pub one-less : (i : ℕ) (fs : List Frame) → i < length fs → suc (length (without i fs)) ≡ length fs
-unfolding without
-one-less i [] h = absurd (omega arith)
-one-less zero (f ∷ fs) h = refl
-one-less (suc i) (f ∷ fs) h = ap suc (one-less i fs (omega arith))

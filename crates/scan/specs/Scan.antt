@@ -7,7 +7,7 @@ use lib.Dec.{leb, ltb, eqb}
 use lib.ListN.{getD}
 use Rattle.slots.specs.Slots.{freeSlot}
 use Rattle.slots.specs.declared.Slot.{Slot}
-use Rattle.bus_state.specs.Memory.{slotsPerNode, nodeState}
+use Rattle.bus_state.specs.Memory.{slotsPerNode, nodeState, slotCount}
 use Rattle.bus_state.specs.Valid.{validEntry}
 use Rattle.bus_state.specs.Follows.{slotFollows}
 use Rattle.bus_state.specs.declared.State.{State}
@@ -20,7 +20,7 @@ use Rattle.scan.specs.declared.Winner.the-variants.{Nobody, First}
 
 -- of a frame of this rank in slot p
 abbrev pub frameKey : ℕ → ℕ → ℕ
-frameKey rank p = rank * 32 + p + 1
+frameKey rank p = rank * slotCount + p + 1
 
 -- above that of every frame
 abbrev pub noFrame : ℕ
@@ -32,7 +32,7 @@ keyOf (First rank owner position) = frameKey rank (slotsPerNode * owner + positi
 
 -- the first slot of the winner's node, by the key; 0 where there is no winner
 unfoldable pub winnerBlock : ℕ → ℕ
-winnerBlock key = cond (eqb key 0 || leb noFrame key) 0 (slotsPerNode * ((key - 1) % 32 / 4))
+winnerBlock key = cond (eqb key 0 || leb noFrame key) 0 (slotsPerNode * ((key - 1) % slotCount / slotsPerNode))
 
 abbrev pub lowerOf : ℕ → ℕ → ℕ
 lowerOf a b = cond (ltb a b) a b

@@ -4,6 +4,7 @@ ghost use mathlib.Core.Path.{_≡_};
 ghost use mathlib.Core.Bool.{_&&_};
 ghost use lib.Dec.{leb};
 ghost use Prim.Native.Nat.{_+_, _≤_, _<_};
+ghost use Rattle.bus_state.specs.Memory.{slotCount, slotsPerNode};
 ghost use Rattle.scan.specs.Winner.{Small};
 ghost use Rattle.scan.specs.declared.Winner.{Winner};
 ghost use Rattle.scan.specs.Scan.{keyOf, winnerBlock, lowerOf, stepOf, runKey, begun, entryKey, frameCount, attachedCount, firstKey};
@@ -32,12 +33,16 @@ pub const INVALID: u64 = 0;
 
 const NO_FRAME: u64 = 137438953473;
 
+const SLOT_COUNT: u64 = bus_state::SLOT_COUNT as u64;
+
+const SLOTS_PER_NODE: u64 = bus_state::SLOTS_PER_NODE as u64;
+
 // Of a state: how many nodes are attached, the round, the entries, and the key to begin with.
 
 fn count_is_legal(count: u32) -> bool
     ensures { λ r. ⌜ r ≡ (leb 2 count && leb count 8) ⌝ }
 {
-    (2 <= count) & (count <= 8)
+    (2 <= count) & (count <= bus_state::MAX_NODES)
 }
 
 pub fn attached(s: State) -> usize
@@ -82,7 +87,7 @@ pub fn entry_key(d: NodeState, key: u64) -> u64
 }
 
 pub fn frame_count(d: NodeState) -> usize
-    ensures { λ r. ⌜ (r ≡ frameCount d) × (r ≤ 4) ⌝ }
+    ensures { λ r. ⌜ (r ≡ frameCount d) × (r ≤ slotsPerNode) ⌝ }
 {
     if bus_state::entry_is_valid(d) {
         return d.pending as usize;
@@ -112,7 +117,7 @@ fn with_frame(r: Run, key: u64, accepted: u32) -> Run
 
 // One more slot, p of node j.
 pub fn step(r: Run, x: Slot, j: usize, p: usize) -> Run
-    requires { ⌜ (j < 8) × (p < 32) ⌝ }
+    requires { ⌜ (j < 8) × (p < slotCount) ⌝ }
     ensures { λ t. ⌜ t ≡ stepOf r x j p ⌝ }
 {
     if !bus_state::slot_follows(x, j as u8, r.low) {
@@ -121,7 +126,7 @@ pub fn step(r: Run, x: Slot, j: usize, p: usize) -> Run
             low: x.accepted,
         };
     }
-    with_frame(r, x.id as u64 * 32 + p as u64 + 1, x.accepted)
+    with_frame(r, x.id as u64 * SLOT_COUNT + p as u64 + 1, x.accepted)
 }
 
 // Along a node's frames the rounds do not fall, so that none was accepted after now if the last was not.
@@ -142,22 +147,22 @@ pub fn winner_of(key: u64) -> Winner
     if NO_FRAME <= key {
         return Winner::Nobody;
     }
-    let place = (key - 1) % 32;
-    let rank = (key - 1) / 32;
+    let place = (key - 1) % SLOT_COUNT;
+    let rank = (key - 1) / SLOT_COUNT;
     Winner::First {
         rank: rank as u32,
-        owner: (place / 4) as usize,
-        position: (place % 4) as usize,
+        owner: (place / SLOTS_PER_NODE) as usize,
+        position: (place % SLOTS_PER_NODE) as usize,
     }
 }
 
 // The first slot of the winner's node; 0 where there is no winner.
 pub fn winner_block(key: u64) -> usize
-    ensures { λ r. ⌜ (r ≡ winnerBlock key) × (r + 4 ≤ 32) ⌝ }
+    ensures { λ r. ⌜ (r ≡ winnerBlock key) × (r + slotsPerNode ≤ slotCount) ⌝ }
 {
     if (key == INVALID) | (NO_FRAME <= key) {
         return 0;
     }
-    let place = (key - 1) % 32;
-    4 * (place / 4) as usize
+    let place = (key - 1) % SLOT_COUNT;
+    bus_state::SLOTS_PER_NODE * (place / SLOTS_PER_NODE) as usize
 }

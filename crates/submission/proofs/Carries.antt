@@ -21,12 +21,12 @@ use Rattle.slots.proofs.Blocks.{set-in-block}
 use Rattle.plain_bus.specs.Held.{busOff}
 use Rattle.plain_bus.specs.Submit.{formatError}
 use Rattle.bus_state.specs.Memory.{held, slotsPerNode, bytesPerSlot, bytesPerQueue, noNode, nodeState}
-use Rattle.bus_state.specs.Entries.{withEntry, entryStatus, entryFill}
+use Rattle.bus_state.specs.Entries.{isOff, withEntry, entryStatus, entryFill}
 use Rattle.bus_state.specs.declared.State.{State}
 use Rattle.bus_state.specs.declared.NodeState.{NodeState}
 use Rattle.bus_model.specs.Primitives.{setEntry, fillSlot, putFrame, append, clearNode, inTurn}
 use Rattle.bus_model.specs.Submit.{statusOf, statusIn, wakeupAt, wakeAt}
-use Rattle.submission.specs.Counting.{isOff, unreached, wakeupLength, entryWoken, wokenFrom, wokenBy, answerLength, cleared, statusSet, entryAfter}
+use Rattle.submission.specs.Counting.{unreached, wakeupLength, entryWoken, wokenFrom, wokenBy, answerLength, cleared, statusSet, entryAfter}
 use Rattle.submission.specs.Carrying.{memoryAfter, queueWith, wakeupLaid, wakeupsLaid}
 use Rattle.submission.specs.declared.Effect.{Effect}
 use Rattle.submission.specs.declared.Effect.the-variants.{Nothing, Transmit, Answer, SetRate, SetBehaviour, SetStatus, Wake}

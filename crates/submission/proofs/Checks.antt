@@ -10,7 +10,8 @@ use Rattle.operation.specs.declared.Operation.{Operation}
 use Rattle.bus_state.specs.Memory.{slotsPerNode, bytesPerQueue, nodeState}
 use Rattle.bus_state.specs.declared.State.{State}
 use Rattle.bus_state.specs.declared.NodeState.{NodeState}
-use Rattle.submission.specs.Counting.{isOff, isWakeup, wakeupRoom, answerLength, entryCheck, check}
+use Rattle.bus_state.specs.Entries.{isOff}
+use Rattle.submission.specs.Counting.{isWakeup, wakeupRoom, answerLength, entryCheck, check}
 use Rattle.submission.specs.declared.Effect.{Effect}
 use Rattle.submission.specs.declared.Effect.the-variants.{Nothing, Transmit, Answer, SetRate, SetBehaviour, SetStatus, Wake}
 use Rattle.submission.specs.declared.Verdict.the-variants.{Goes, FourPending, QueueFull}

@@ -4,7 +4,6 @@ pub mod Settings
 pub mod Checks
 pub mod Takes
 pub mod Walks
-pub mod Lays
 pub mod Carries
 pub mod Stands
 pub mod Counts

@@ -18,7 +18,8 @@ use Rattle.bus_state.specs.Memory.{Memory, held, slotsPerNode, bytesPerSlot, by
 use Rattle.bus_state.specs.declared.State.{State}
 use Rattle.bus_state.specs.declared.NodeState.{NodeState}
 use Rattle.submission.specs.Effects.{Taken}
-use Rattle.submission.specs.Counting.{isOff, isWakeup, wakeupRoom, wokenBy, answerLength, entryCheck, entryAfter, check, andThen, checkItems}
+use Rattle.bus_state.specs.Entries.{isOff}
+use Rattle.submission.specs.Counting.{isWakeup, wakeupRoom, wokenBy, answerLength, entryCheck, entryAfter, check, andThen, checkItems}
 use Rattle.submission.specs.Carrying.{memoryAfter, memoryAfterAll, queueWith, wakeupsLaid}
 use Rattle.submission.specs.declared.Effect.the-variants.{Transmit, Answer, Wake}
 use Rattle.submission.specs.declared.Step.{Step}

@@ -6,10 +6,12 @@ use mathlib.Core.List.{List, [], _∷_}
 use mathlib.Core.Bool.{Bool, true, false, cond, not, _&&_, _||_}
 use lib.Dec.{leb, eqb}
 use lib.ListN.{length, getD, set}
+use Rattle.operation.specs.Format.{lengthOf}
+use Rattle.operation.specs.declared.Operation.the-variants.{FormatError, Wakeup}
 use Rattle.decoder.specs.Stream.{Item, bytesOf}
 use Rattle.plain_bus.specs.Held.{busOff}
 use Rattle.bus_state.specs.Memory.{slotsPerNode, bytesPerQueue, noNode, nodeState}
-use Rattle.bus_state.specs.Entries.{entryStatus, entryBehaviour, entryRates, entryFill, entryPending, withEntry}
+use Rattle.bus_state.specs.Entries.{isOff, entryStatus, entryBehaviour, entryRates, entryFill, entryPending, withEntry}
 use Rattle.bus_state.specs.declared.State.{State}
 use Rattle.bus_state.specs.declared.NodeState.{NodeState}
 use Rattle.submission.specs.Effects.{effectOf}
@@ -26,7 +28,7 @@ unreached status k j = eqb j k || eqb status busOff
 
 -- how many bytes one adds there
 unfoldable pub wakeupLength : ℕ → ℕ → ℕ → ℕ
-wakeupLength status k j = cond (unreached status k j) 0 8
+wakeupLength status k j = cond (unreached status k j) 0 (lengthOf Wakeup)
 
 -- the fill of node j's queue with u of them
 abbrev pub fillWoken : NodeState → ℕ → ℕ → ℕ → ℕ
@@ -51,9 +53,6 @@ wokenBy s k u = record { count = s .count; round = s .round; nodes = wokenFrom (
 
 -- ---- a step, by its effect and the number of its bytes: on the sender's entry
 
-abbrev pub isOff : NodeState → Bool
-isOff d = eqb (d .status) busOff
-
 -- a Wakeup goes to the other nodes; from a Bus-Off node it has no effect
 unfoldable pub isWakeup : NodeState → Effect → Bool
 isWakeup d Nothing = false
@@ -64,9 +63,9 @@ isWakeup d (SetBehaviour behaviour) = false
 isWakeup d (SetStatus status) = false
 isWakeup d Wake = not (isOff d)
 
--- a Format Error has ten bytes besides those that it answers
+-- of the Format Error that answers so many bytes
 abbrev pub answerLength : ℕ → ℕ
-answerLength size = 10 + size
+answerLength size = lengthOf (FormatError size)
 
 -- whether the entry lets the step be done, or the refusal
 unfoldable pub entryCheck : NodeState → Effect → ℕ → Verdict

@@ -6,14 +6,14 @@ ghost use mathlib.Core.List.{List, []};
 ghost use Prim.Native.Nat.{_+_, _*_, _≤_, _<_};
 ghost use lib.ListN.{length};
 ghost use Rattle.operation.specs.Rules.{legal};
-ghost use Rattle.operation.specs.Format.{encode};
+ghost use Rattle.operation.specs.Format.{lengthOf, encode};
 ghost use Rattle.buffers.specs.Parts.{over};
 ghost use Rattle.decoder.specs.Stream.{itemsOf};
 ghost use Rattle.slots.specs.Slots.{setBlock, blockAt};
 ghost use Rattle.slots.specs.declared.Slot.{Slot};
 ghost use Rattle.plain_bus.specs.Submit.{formatError};
 ghost use Rattle.plain_bus.specs.Calls.{maxSubmit};
-ghost use Rattle.bus_state.specs.Memory.{held, nodeState, slotsPerNode, bytesPerSlot, bytesPerQueue, payloadBytes, queueBytes};
+ghost use Rattle.bus_state.specs.Memory.{held, nodeState, slotCount, slotsPerNode, bytesPerSlot, bytesPerQueue, payloadBytes, queueBytes};
 ghost use Rattle.bus_state.specs.Entries.{withEntry};
 ghost use Rattle.bus_model.specs.Calls.{submitted};
 ghost use Rattle.outcome.specs.Outcome.{endedBy, ended};
@@ -61,19 +61,6 @@ enum Verdict {
 
 // The most bytes of a buffer.
 const LONGEST_BUFFER: usize = 4086;
-
-// A Format Error has ten bytes besides those it answers, a Wakeup eight.
-const ANSWER_HEAD: usize = 10;
-
-const WAKEUP_LENGTH: usize = 8;
-
-const QUEUE_CAPACITY: usize = bus_state::QUEUE_CAPACITY as usize;
-
-const MOST_NODES: u32 = 8;
-
-const BYTES_PER_SLOT: usize = 2048;
-
-const SLOTS_PER_NODE: usize = bus_state::SLOTS_PER_NODE as usize;
 
 // ---- what an item does
 
@@ -179,7 +166,7 @@ fn fill_woken(d: NodeState, k: usize, u: usize, j: usize) -> usize
     if is_unreached(d.status, k, j) {
         return fill;
     }
-    fill + u * WAKEUP_LENGTH
+    fill + u * operation::WAKEUP_LENGTH
 }
 
 // Whether every queue has room for u of them.
@@ -192,7 +179,7 @@ fn wakeups_have_room(s: State, k: usize, u: usize) -> bool
     let mut j: usize = 0;
     while j < count {
         let d = nodes[j];
-        if QUEUE_CAPACITY < fill_woken(d, k, u, j) {
+        if bus_state::BYTES_PER_QUEUE < fill_woken(d, k, u, j) {
             return false;
         }
         j += 1;
@@ -255,13 +242,15 @@ fn entry_check(d: NodeState, effect: Effect, size: usize) -> Verdict
             if d.status == operation::BUS_OFF {
                 return Verdict::Goes;
             }
-            if bus_state::SLOTS_PER_NODE <= d.pending {
+            if bus_state::MAX_PENDING <= d.pending {
                 return Verdict::FourPending;
             }
             Verdict::Goes
         }
         Effect::Answer => {
-            if d.fill as usize + (ANSWER_HEAD + size) <= QUEUE_CAPACITY {
+            if d.fill as usize + (operation::FORMAT_ERROR_HEAD + size)
+                <= bus_state::BYTES_PER_QUEUE
+            {
                 return Verdict::Goes;
             }
             Verdict::QueueFull
@@ -298,7 +287,7 @@ fn entry_after(d: NodeState, effect: Effect, size: usize) -> NodeState
             bus_state::with_pending(d, d.pending + 1)
         }
         Effect::Answer => {
-            let fill = d.fill as usize + (ANSWER_HEAD + size);
+            let fill = d.fill as usize + (operation::FORMAT_ERROR_HEAD + size);
             bus_state::with_fill(d, fill as u16)
         }
         Effect::SetRate(i, rate) => bus_state::with_rate(d, i as usize, rate),
@@ -356,7 +345,7 @@ fn check_buffer(s: State, k: usize, entry: NodeState, buffer: &[u8]) -> Verdict
 
 // Lays a Wakeup over a buffer from a position on.
 fn lay_wakeup(queues: &mut [u8], at: usize)
-    requires { ⌜ at + 8 ≤ length (now queues) ⌝ }
+    requires { ⌜ at + lengthOf Operation.Wakeup ≤ length (now queues) ⌝ }
     ensures { λ _. ⌜ now (queues .exit) ≡ over (now (queues .entry)) at (encode Operation.Wakeup []) ⌝ }
 {
     encoder::write_wakeup(b"", &mut queues[at..]);
@@ -376,7 +365,11 @@ fn lay_data(d: NodeState, k: usize, bytes: &[u8], payload: &mut [u8])
     ensures { λ _. ⌜ now (payload .exit) ≡ over (now (payload .entry)) (bytesPerSlot * (slotsPerNode * k + d .pending)) (now (bytes .entry)) ⌝ }
 {
     let q = d.pending as usize;
-    buffers::put(payload, BYTES_PER_SLOT * (SLOTS_PER_NODE * k + q), bytes);
+    buffers::put(
+        payload,
+        bus_state::BYTES_PER_SLOT * (bus_state::SLOTS_PER_NODE * k + q),
+        bytes,
+    );
 }
 
 // Answers some bytes of node k with a Format Error behind the fill of its queue.
@@ -384,7 +377,11 @@ fn answer(d: NodeState, k: usize, bytes: &[u8], queues: &mut [u8])
     requires { ⌜ (k < 8) × (d .fill + answerLength (length (now bytes)) ≤ bytesPerQueue) × (length (now queues) ≡ queueBytes) ⌝ }
     ensures { λ _. ⌜ now (queues .exit) ≡ queueWith d k (now (queues .entry)) (formatError (now (bytes .entry))) ⌝ }
 {
-    lay_format_error(queues, QUEUE_CAPACITY * k + d.fill as usize, bytes);
+    lay_format_error(
+        queues,
+        bus_state::BYTES_PER_QUEUE * k + d.fill as usize,
+        bytes,
+    );
 }
 
 // Puts one more Wakeup of node k, behind u of them, into the queue of node j.
@@ -396,7 +393,10 @@ fn wake_at(d: NodeState, k: usize, u: usize, j: usize, queues: &mut [u8])
     if is_unreached(d.status, k, j) {
         return;
     }
-    lay_wakeup(queues, QUEUE_CAPACITY * j + fill_woken(d, k, u, j));
+    lay_wakeup(
+        queues,
+        bus_state::BYTES_PER_QUEUE * j + fill_woken(d, k, u, j),
+    );
 }
 
 // Puts one more Wakeup of node k, behind u of them, into the queue of every other node that is not Bus-Off.
@@ -511,10 +511,10 @@ fn carry_buffer(
 
 // The first of a node's four slots, for the caller that holds all: of a number past the last node it is slot 0.
 pub fn first_slot(node: u32) -> usize
-    ensures { λ r. ⌜ (r ≡ firstSlot node) × (r + 4 ≤ 32) ⌝ }
+    ensures { λ r. ⌜ (r ≡ firstSlot node) × (r + slotsPerNode ≤ slotCount) ⌝ }
 {
-    if node < MOST_NODES {
-        return SLOTS_PER_NODE * node as usize;
+    if node < bus_state::MAX_NODES {
+        return bus_state::SLOTS_PER_NODE * node as usize;
     }
     0
 }
@@ -533,7 +533,7 @@ pub fn submit(
     requires { ⌜ (length (now payload) ≡ payloadBytes) × (length (now queues) ≡ queueBytes) ⌝ }
     ensures ended { λ r. ⌜ ((a : List Slot) → blockAt a (r .at) ≡ four → endedBy r a (now (payload .exit)) (now (queues .exit)) ≡ ended (submitted (held s a (now (payload .entry)) (now (queues .entry))) node (now (buffer .entry)))) ⌝ }
     ensures place { λ r. ⌜ r .at ≡ firstSlot node ⌝ }
-    ensures inside { λ r. ⌜ r .at + 4 ≤ 32 ⌝ }
+    ensures inside { λ r. ⌜ r .at + slotsPerNode ≤ slotCount ⌝ }
 {
     let at = first_slot(node);
     if s.count <= node {

@@ -1,5 +1,5 @@
 -- The part of the buffer behind the position is written at its front.
-use Rattle.arbitration.proofs.Bytes.{put-part}
+use Rattle.encoder.proofs.Behind.{laid-behind}
 use Rattle.operation.specs.declared.Operation.the-variants.{BusError}
 use borrow.Author.Needs.{needs}
 use denote.Ref.{now}
@@ -14,7 +14,7 @@ returns c =
     let w = c .before .before in
     let s = w .before .before .before .before in
     let a = s .args in
-    put-part (BusError (a .id) (a .code) (a .flag) (a .sender)) [] (now (a .buffer)) _ (a .at) (s .pre .0) refl (omega arith) (s .pre .1) (w .write-bus-error .ensures .1)
+    laid-behind (BusError (a .id) (a .code) (a .flag) (a .sender)) [] (now (a .buffer)) _ (a .at) (s .pre .0) refl (omega arith) (s .pre .1) (w .write-bus-error .ensures .1)
 
 pub put-bus-error-spec : {M : Type 1} → statement M
 put-bus-error-spec =

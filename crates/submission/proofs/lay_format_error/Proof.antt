@@ -1,7 +1,7 @@
 -- The room that is required is the Format Error's.
 use Rattle.encoder.proofs.Answers.{format-error-lawful}
 use Rattle.operation.specs.declared.Operation.the-variants.{FormatError}
-use Rattle.submission.proofs.Lays.{laid-behind}
+use Rattle.encoder.proofs.Behind.{laid-behind}
 use borrow.Author.Needs.{needs}
 use denote.Ref.{now}
 use lib.ListN.{length}

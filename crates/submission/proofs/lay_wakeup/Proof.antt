@@ -1,7 +1,7 @@
 -- The room that is required is the Wakeup's.
 use Rattle.encoder.proofs.Answers.{wakeup-lawful}
 use Rattle.operation.specs.declared.Operation.the-variants.{Wakeup}
-use Rattle.submission.proofs.Lays.{laid-behind}
+use Rattle.encoder.proofs.Behind.{laid-behind}
 use borrow.Author.Needs.{needs}
 use denote.Ref.{now}
 use mathlib.Core.List.{[]}
