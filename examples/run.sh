@@ -19,7 +19,7 @@ example() {
     languages="$languages $language"
 }
 
-"${CC:-cc}" -std=c99 -Wall -Wextra -pedantic -O2 -I include examples/c/w6.c "$libraries/libkettlefrost.a" -o "$out/w6"
+"${CC:-cc}" -std=c99 -Wall -Wextra -Wpedantic -Werror -O2 -I include examples/c/w6.c "$libraries/libkettlefrost.a" -o "$out/w6"
 example C "$out/w6"
 
 example Rust cargo run --example w6 --manifest-path bindings/rust/Cargo.toml --release --offline --quiet

@@ -41,6 +41,13 @@
 extern "C" {
 #endif
 
+/* ---- Version ---- */
+
+/* As long as MAJOR is 0, a new MINOR may change the records: see kf_layout. */
+#define KF_VERSION_MAJOR 0
+#define KF_VERSION_MINOR 1
+#define KF_VERSION_PATCH 0
+
 /* ---- Sizes ---- */
 
 /* What is lent to every call of the bus: KF_SLOTS slots, KF_PAYLOAD_BYTES and KF_QUEUE_BYTES bytes. */
@@ -343,6 +350,20 @@ kf_register_answer kf_register_enter(kf_register reg, const uint8_t *buffer, siz
  * Refusals: KF_INVALID, KF_REGISTER_DIFFERS.
  */
 kf_register_answer kf_register_read(kf_register reg, const uint8_t *buffer, size_t buffer_length);
+
+/* ---- The layout of the records ---- */
+
+/*
+ * The sizes of the library's records as one number, three decimal digits a size; the first may have more. A record
+ * that KF_LAYOUT does not name lies in one that it names. Where kf_layout() is not KF_LAYOUT the library is of another
+ * version than the header: a program that loads it while it runs asks this first.
+ */
+uint64_t kf_layout(void);
+
+/* The same of this header's records. */
+#define KF_LAYOUT                                                                                                      \
+    (((((sizeof(kf_register_answer) * UINT64_C(1000) + sizeof(kf_answer)) * 1000 + sizeof(kf_slot)) * 1000 +           \
+       sizeof(kf_reading)) * 1000 + sizeof(kf_part)) * 1000 + sizeof(kf_written))
 
 #ifdef __cplusplus
 }

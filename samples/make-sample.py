@@ -94,7 +94,8 @@ STREAM = [
     format_error(b""),
     # Fault 3: there is no code 0x50.
     operation(0x50, bytes([0xDE, 0xAD])),
-    # Fault 4: a baud rate with one byte only; kind 5; a CAN Transmit whose DL says 3 where two bytes follow.
+    # Fault 4: a baud rate with one byte only; kind 5; a CAN Transmit whose DL says 3 where two
+    # bytes follow.
     operation(0x40, bytes([1, 0x05])),
     operation(0x40, bytes([5, 0, 0, 0, 0])),
     operation(0x10, struct.pack("<IBBH", 15, 0, 0, 3), bytes.fromhex("AA BB")),

@@ -52,9 +52,9 @@ check 'a file that is too long' "$work/none" "$work/long"
 says '65536'
 head -c 65536 /dev/zero >"$work/full"
 "$decode" "$work/full" >"$work/out" 2>"$work/err"
-[ "$(wc -l <"$work/out")" -eq 1 ] && [ ! -s "$work/err" ] || {
+if [ "$(wc -l <"$work/out")" -ne 1 ] || [ -s "$work/err" ]; then
     echo "decode: a file of 65,536 bytes is not decoded to one fault"
     exit 1
-}
+fi
 checks=$((checks + 1))
 echo "decode: $checks checks"

@@ -5,7 +5,10 @@
 # - under valgrind, which sees every access.
 # Each way is shown to notice a caller that lends less than it says. Takes the library from target/staticlib.
 set -eu
-cd "$(dirname "$0")/second"
+cd "$(dirname "$0")/.."
+. tests/need.sh
+need valgrind
+cd tests/second
 target=x86_64-unknown-linux-gnu
 plain=target/release/memory
 asan=target/asan/$target/release/memory
@@ -39,10 +42,6 @@ notices() {
     checks=$((checks + 1))
 }
 
-command -v valgrind >/dev/null || {
-    apt-get update -qq
-    apt-get install -y -qq valgrind >/dev/null
-}
 cargo build --release --offline --quiet --bin memory
 # The sanitizer comes with the stable toolchain and is switched on as an unstable option.
 RUSTC_BOOTSTRAP=1 RUSTFLAGS=-Zsanitizer=address \
@@ -61,10 +60,12 @@ notices 'pages, front: read-before' $segmentation_fault '' $plain --lent front -
 # Leaks are not what is looked for, and the search for them is not allowed everywhere.
 export ASAN_OPTIONS=detect_leaks=0
 passes AddressSanitizer $asan --lent heap --calls 200000
-valgrind='valgrind --quiet --error-exitcode=9'
-passes valgrind $valgrind $plain --lent heap --calls 3000
+under_valgrind() {
+    valgrind --quiet --error-exitcode=9 "$@"
+}
+passes valgrind under_valgrind $plain --lent heap --calls 3000
 for misuse in read-past read-before write-past; do
     notices "AddressSanitizer: $misuse" 1 'AddressSanitizer: heap-buffer-overflow' $asan --second --misuse $misuse
-    notices "valgrind: $misuse" 9 "Invalid ${misuse%-*} of size" $valgrind $plain --misuse $misuse
+    notices "valgrind: $misuse" 9 "Invalid ${misuse%-*} of size" under_valgrind $plain --misuse $misuse
 done
 echo "memory: $checks checks"

@@ -46,8 +46,8 @@ Traceback (most recent call last):
     ...
 OverflowError: id: 4294967296 is not an unsigned number of 32 bits
 
-Names that begin with ``kf_`` are the C interface itself: its structures, and its ten calls, which
-take each slice as a pointer and a length. All else stands on these.
+Names that begin with ``kf_`` are the C interface itself: its structures, and its calls, which take
+each slice as a pointer and a length. All else stands on these.
 
 The shared library is looked for at the path in the environment variable ``KETTLEFROST_LIBRARY``;
 where that is not set, beside this file, then as the system's loader does. It is made from the
@@ -62,6 +62,8 @@ import functools
 import operator
 import os
 from typing import ClassVar, Iterator, NamedTuple, Optional, Tuple, Union
+
+__version__ = "0.1.0"
 
 # Nodes of a bus.
 MIN_NODES = 2
@@ -87,7 +89,8 @@ class _Worded(enum.IntEnum):
 
     words: str
 
-    def __new__(cls, value, words):
+    # A member is looked up by its value alone.
+    def __new__(cls, value: int, words: str = ""):
         member = int.__new__(cls, value)
         member._value_ = value
         member.words = words
@@ -216,21 +219,25 @@ class _Record(ctypes.Structure):
         super().__setattr__(name, value)
 
 
-class _Checked:
-    """In front of an array type: its items must fit."""
-
-    def __setitem__(self, index, value):
-        for item in value if isinstance(index, slice) else [value]:
-            _check_fits("item", item, self._type_)
-        super().__setitem__(index, value)
+def _set_item(array, index, value):
+    """The items of an array must fit."""
+    for item in value if isinstance(index, slice) else [value]:
+        _check_fits("item", item, array._type_)
+    ctypes.Array.__setitem__(array, index, value)
 
 
-class _Rates(_Checked, ctypes.c_uint32 * 3):
+class _Rates(ctypes.Array):
     """The baud rates of CAN, CAN FD and CAN XL."""
 
+    _type_, _length_ = ctypes.c_uint32, 3
+    __setitem__ = _set_item
 
-class _Ids(_Checked, ctypes.c_uint32 * MAX_OPEN):
+
+class _Ids(ctypes.Array):
     """The IDs of a register."""
+
+    _type_, _length_ = ctypes.c_uint32, MAX_OPEN
+    __setitem__ = _set_item
 
 
 class kf_slot(_Record):
@@ -339,28 +346,6 @@ class kf_register_answer(_Record):
     _fields_ = [("number", ctypes.c_uint32), ("reg", kf_register)]
 
 
-def _check_sizes(sizes):
-    """The library was made with these; a platform where ctypes lays out otherwise is not served."""
-    for record, size in sizes.items():
-        here = ctypes.sizeof(record)
-        if here != size:
-            raise ImportError(f"{record.__name__} has {here} bytes here, and {size} in the library")
-
-
-_check_sizes({
-    kf_slot: 20,
-    kf_node_state: 20,
-    kf_state: 168,
-    kf_answer: 188,
-    kf_operation: 20,
-    kf_reading: 40,
-    kf_part: 16,
-    kf_written: 16,
-    kf_register: 1388,
-    kf_register_answer: 1392,
-})
-
-
 def _library_path():
     named = os.environ.get("KETTLEFROST_LIBRARY")
     if named:
@@ -384,7 +369,10 @@ _library = _load(_library_path())
 
 def _exported(declaration):
     """The library's function of this name, with the types that the declaration has."""
-    function = getattr(_library, declaration.__name__)
+    try:
+        function = getattr(_library, declaration.__name__)
+    except AttributeError as error:
+        raise ImportError(f"the library is of another version: {error}") from error
     *parameters, (_, function.restype) = declaration.__annotations__.items()
     function.argtypes = [kind for _, kind in parameters]
     numbers = [(i, name, kind) for i, (name, kind) in enumerate(parameters) if kind in _NUMBERS]
@@ -491,6 +479,23 @@ def kf_register_read(
     register: kf_register, buffer: _Bytes, buffer_length: _Size
 ) -> kf_register_answer:
     """Reads the bytes that a collect gave."""
+
+
+@_exported
+def kf_layout() -> ctypes.c_uint64:
+    """The sizes of the library's structures as one number, three decimal digits a size."""
+
+
+def _check_layout(library):
+    """A library whose structures have other sizes would read and write past them."""
+    here = 0
+    for record in (kf_register_answer, kf_answer, kf_slot, kf_reading, kf_part, kf_written):
+        here = here * 1_000 + ctypes.sizeof(record)
+    if here != library:
+        raise ImportError(f"the library has structures of layout {library}, this module of {here}")
+
+
+_check_layout(kf_layout())
 
 
 # For test benches.
@@ -673,7 +678,8 @@ def operations(buffer: BytesLike) -> Iterator[Tuple[int, Union[Operation, Fault]
         reading = kf_read(content, len(content), at)
         if reading.end:
             return
-        yield (at, *_item(content, at, reading))
+        item, data = _item(content, at, reading)
+        yield at, item, data
         at = reading.next
 
 
@@ -762,7 +768,8 @@ class Bus:
             raise IndexError(f"node {node} of {self.node_count}")
         entry = self._state.nodes[node]
         status, behaviour = NodeStatus(entry.status), Behaviour(entry.behaviour)
-        return Node(status, behaviour, tuple(entry.rates), entry.pending, entry.fill)
+        can, can_fd, can_xl = entry.rates
+        return Node(status, behaviour, (can, can_fd, can_xl), entry.pending, entry.fill)
 
 
 class Register:

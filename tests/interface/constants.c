@@ -322,7 +322,10 @@ static void behaviours(void) {
     EXPECT(r.operation.code == KF_ARBITRATION_LOST && r.operation.id == 16);
 }
 
+static void layout(void) { EXPECT(kf_layout() == KF_LAYOUT); }
+
 int main(void) {
+    test("layout", layout);
     test("sizes of lent memory", memory_sizes);
     test("node counts", node_counts);
     test("longest submit", longest_submit);

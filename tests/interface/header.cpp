@@ -15,5 +15,5 @@ int main() {
                    buffer.data(), buffer.size());
     kf_register_answer r = kf_register_read(kf_register_new(), buffer.data(), a.length);
     bool woken = kf_read(buffer.data(), a.length, 0).operation.code == KF_WAKEUP;
-    return woken && a.number == KF_DONE && r.number == KF_DONE ? 0 : 1;
+    return kf_layout() == KF_LAYOUT && woken && a.number == KF_DONE && r.number == KF_DONE ? 0 : 1;
 }

@@ -3,12 +3,12 @@
 # The library has to be made: target/staticlib/libkettlefrost.a (rt staticlib kettlefrost).
 set -eu
 cd "$(dirname "$0")/../.."
+. tests/need.sh
 here=tests/interface
 library=target/staticlib/libkettlefrost.a
 header=include/kettlefrost.h
 rt=${RT:-rt}
 cc=${CC:-cc}
-flags='-Wall -Wextra -Wconversion -Wno-sign-conversion -pedantic'
 work=$(mktemp -d)
 trap 'rm -rf "$work"' EXIT
 checks=0
@@ -16,14 +16,6 @@ checks=0
 fail() {
     echo "interface: $*"
     exit 1
-}
-
-# need COMMAND PACKAGE: installs the package where the command is missing
-need() {
-    command -v "$1" >/dev/null || {
-        apt-get update -qq
-        apt-get install -y -qq "$2" >/dev/null
-    }
 }
 
 # counted COMMAND..: a command whose last line is 'NAME: N checks'
@@ -57,19 +49,24 @@ refused() {
     checks=$((checks + 1))
 }
 
+# strict COMPILER..: every warning is an error
+strict() {
+    "$@" -Wall -Wextra -Wpedantic -Wconversion -Wno-sign-conversion -Werror
+}
+
 # build NAME SOURCE FLAG..: a C program with the library, as $work/NAME
 build() {
     name=$1 source=$2
     shift 2
-    "$cc" -std=c99 $flags -O2 -g -I include "$@" "$here/$source" "$library" -o "$work/$name"
+    strict "$cc" -std=c99 -O2 -g -I include "$@" "$here/$source" "$library" -o "$work/$name"
 }
 
 # ---- the header by itself
 
 compiles() {
-    "$cc" -std=c99 $flags -Werror -fsyntax-only -x c "$header" &&
-        "$cc" -std=c11 $flags -Werror -fsyntax-only -x c "$header" &&
-        g++ -std=c++11 $flags -Werror -fsyntax-only -x c++ "$header"
+    strict "$cc" -std=c99 -fsyntax-only -x c "$header" &&
+        strict "$cc" -std=c11 -fsyntax-only -x c "$header" &&
+        strict g++ -std=c++11 -fsyntax-only -x c++ "$header"
 }
 
 # The use that the header's first comment shows: five lines, which deliver a frame to node 1.
@@ -86,16 +83,16 @@ worked_use() {
         echo '    return !(a.number == KF_DONE && a.length == in_length && out[17] == 0xBB);'
         echo '}'
     } >"$work/use.c"
-    "$cc" -std=c99 $flags -Werror -I include "$work/use.c" "$library" -o "$work/use" && "$work/use"
+    strict "$cc" -std=c99 -I include "$work/use.c" "$library" -o "$work/use" && "$work/use"
 }
 
 # ---- the library by itself
 
 # It defines the functions that the header declares, and no other name.
 exports() {
-    sed -n 's/^kf_[a-z_]* \(kf_[a-z_]*\)(.*/\1/p' "$header" | sort >"$work/declared"
+    sed -n 's/^[a-z0-9_]* \(kf_[a-z_]*\)(.*/\1/p' "$header" | sort >"$work/declared"
     nm -g --defined-only "$library" | awk 'NF == 3 { print $3 }' | sort >"$work/defined"
-    [ "$(wc -l <"$work/declared")" -eq 10 ] && diff "$work/declared" "$work/defined"
+    [ "$(wc -l <"$work/declared")" -eq 11 ] && diff "$work/declared" "$work/defined"
 }
 
 # It needs what the header says of the C library, and nothing else.
@@ -115,7 +112,7 @@ has_no_variables() {
 layout() {
     "$rt" mir kettlefrost >"$work/mir" &&
         awk -f "$here/layout.awk" crates/*/src/lib.rt "$work/mir" >"$work/layout.c" &&
-        "$cc" -std=c11 $flags -fsyntax-only -I "$1" -I "$here" "$work/layout.c" &&
+        strict "$cc" -std=c11 -fsyntax-only -I "$1" -I "$here" "$work/layout.c" &&
         echo "layout: $(grep -c '^[A-Z]*(' "$work/layout.c") checks"
 }
 
@@ -131,6 +128,23 @@ exchanged_fields() {
         "$work/exchanged/fields"
 }
 
+# A header with one more field of a node.
+add_field() {
+    mkdir -p "$work/longer"
+    sed 's/.*uint8_t pending;.*/&\n    uint32_t added;/' "$header" >"$work/longer/kettlefrost.h"
+}
+
+added_field() {
+    "$cc" -std=c99 -I "$work/longer" "$here/constants.c" "$library" -o "$work/longer/constants" &&
+        "$work/longer/constants"
+}
+
+# The crate for Rust has the header's version.
+one_version() {
+    version=$(awk '$2 ~ /^KF_VERSION_/ { printf dot $3; dot = "." }' "$header")
+    grep -q -x "version = \"$version\"" bindings/rust/Cargo.toml
+}
+
 # ---- misuse
 
 # planted PLANT PLACING: a run of misuse.c with a fault planted
@@ -142,8 +156,8 @@ planted() {
     }
 }
 
-need g++ g++
-need valgrind valgrind
+need g++
+need valgrind
 export ASAN_OPTIONS=detect_leaks=0
 
 passes 'the header compiles as C99, C11 and C++11' compiles
@@ -156,6 +170,9 @@ counted layout include
 exchange_fields
 refused 'exchanged fields, by the layout' 'position of kf_node_state.status' layout "$work/exchanged"
 refused 'exchanged fields, by the calls' 'fields of a node' exchanged_fields
+add_field
+refused 'a field more, by kf_layout' 'layout: not so' added_field
+passes 'the version of the Rust crate' one_version
 
 build fields fields.c
 counted "$work/fields"

@@ -2,6 +2,7 @@
 
 KETTLEFROST_LIBRARY has to name the shared library.
 """
+import _ctypes
 import ctypes
 import dataclasses
 import doctest
@@ -491,10 +492,19 @@ class Interface(Case):
                       if name.startswith("kf_") and inspect.isclass(item)}
         self.assertEqual(set(LAYOUTS), structures)
 
+    def test_library_of_another_layout(self):
+        kf._check_layout(1_392_188_020_040_016_016)
+        for number in (0, 1_392_188_020_040_016_020, 1_392_192_020_040_016_016):
+            with self.assertRaisesRegex(ImportError, f"layout {number}, this module of 1392188"):
+                kf._check_layout(number)
+
     @unittest.skipUnless(HEADER.exists(), "there is no C header")
     def test_constants_are_those_of_the_c_header(self):
         found = re.findall(r"\b(KF_\w+) (?:= )?(0x[0-9A-F]+|\d+)", HEADER.read_text())
-        self.assertEqual(dict(constants()), {name: int(text, 0) for name, text in found})
+        values = {name: int(text, 0) for name, text in found}
+        version = [values.pop(f"KF_VERSION_{part}") for part in ("MAJOR", "MINOR", "PATCH")]
+        self.assertEqual(kf.__version__, ".".join(map(str, version)))
+        self.assertEqual(dict(constants()), values)
 
     def test_every_public_item_has_a_docstring(self):
         undocumented = [name for name, item in public_items() if not inspect.getdoc(item)]
@@ -541,6 +551,10 @@ class Loading(Case):
             shutil.copy(MODULE, folder)
             shutil.copy(os.environ["KETTLEFROST_LIBRARY"], f"{folder}/libkettlefrost.so")
             self.assertEqual(self.load(folder).returncode, 0)
+
+    def test_library_without_the_calls(self):
+        run = self.load(MODULE.parent, KETTLEFROST_LIBRARY=_ctypes.__file__)
+        self.assertIn("ImportError: the library is of another version", run.stderr)
 
     def test_path_that_names_no_library(self):
         run = self.load(MODULE.parent, KETTLEFROST_LIBRARY="missing.so")

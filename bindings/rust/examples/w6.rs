@@ -32,6 +32,7 @@ impl Session {
                 let outcome = if errored { "errored" } else { "delivered" };
                 println!("round {number}: node {sender} sent ID {id}, {outcome}, age {age}");
             }
+            other => println!("round {number}: {other:?}"),
         }
         Ok(())
     }

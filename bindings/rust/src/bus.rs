@@ -51,6 +51,7 @@ pub struct Injection {
 
 /// What a round did.
 #[derive(Clone, Copy, Debug, PartialEq, Eq)]
+#[non_exhaustive]
 pub enum Round {
     /// Nothing was pending, and nothing changed.
     Idle,

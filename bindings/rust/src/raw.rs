@@ -13,7 +13,8 @@
 mod calls;
 
 pub use calls::{
-    collect, data, read, register_enter, register_new, register_read, round, start, submit, write,
+    collect, data, layout, read, register_enter, register_new, register_read, round, start, submit,
+    write,
 };
 
 use crate::{MAX_NODES, MAX_OPEN};

@@ -21,6 +21,7 @@ use std::fmt;
 /// ```
 #[derive(Clone, Copy, Debug, PartialEq, Eq, Hash)]
 #[repr(u32)]
+#[non_exhaustive]
 pub enum Refusal {
     /// Lent memory is not of its sizes. No method of `Bus` gives it.
     WrongMemory = 1,

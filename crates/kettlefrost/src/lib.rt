@@ -1,4 +1,5 @@
 // The calls for C and Rust: the proved calls over records of plain numbers and lent buffers.
+pub mod layout;
 pub mod register;
 
 ghost use mathlib.Core.Path.{_≡_};

@@ -70,6 +70,7 @@ unsafe extern "C" {
     safe fn kf_register_new() -> Register;
     fn kf_register_enter(register: Register, buffer: *const u8, length: usize) -> RegisterAnswer;
     fn kf_register_read(register: Register, buffer: *const u8, length: usize) -> RegisterAnswer;
+    safe fn kf_layout() -> u64;
 }
 
 /// Frees all slots, and gives the state of a new bus of `count` nodes.
@@ -209,4 +210,12 @@ pub fn register_enter(register: Register, buffer: &[u8]) -> RegisterAnswer {
 pub fn register_read(register: Register, buffer: &[u8]) -> RegisterAnswer {
     // SAFETY: the pointer with the length of its slice.
     unsafe { kf_register_read(register, buffer.as_ptr(), buffer.len()) }
+}
+
+/// The sizes of the library's records as one number, three decimal digits a size: of
+/// [`RegisterAnswer`], [`Answer`], [`Slot`], [`Reading`], [`Part`] and [`Written`], in which
+/// the other records lie.
+#[inline]
+pub fn layout() -> u64 {
+    kf_layout()
 }
