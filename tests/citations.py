@@ -22,6 +22,7 @@ LINK = re.compile(r"\]\(([^)#:]+)(?:#[^)]*)?\)")
 CODE = re.compile(r"`([^`]+)`")
 NAME = re.compile(r"[^\W\d][\w′-]*(?:(?:\.|::)[\w′-]+)*")
 WORDS = {"ensures", "requires", "specs", "proofs", "src", "os", "close"}  # of the toolchain
+COMMENT = re.compile(r"(?:--|//) .*")
 SIGNED = re.compile(r"^\s*(?:pub |abbrev |unfoldable )*((?:[^\s:(){}=→]+ )+): ", re.M)
 DECLARED = re.compile(r"\b(?:record|data|fn|struct|enum|const|mod) ([^\s(:;{<]+)")
 MEMBER = re.compile(r"^\s+(?:pub )?(\w+)(?=:|[,({ ]|$)", re.M)
@@ -45,7 +46,7 @@ def signed(text):
 @functools.lru_cache(maxsize=None)
 def defined(path):
     """The names that a file defines."""
-    text = path.read_text(encoding="utf-8")
+    text = COMMENT.sub("", path.read_text(encoding="utf-8"))
     names = signed(text).union(DECLARED.findall(text))
     for block in BLOCK.finditer(text):
         members = signed(block[2]) if path.suffix == ".antt" else MEMBER.findall(block[2])
