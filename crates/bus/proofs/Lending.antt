@@ -8,7 +8,7 @@ use Prim.Native.Nat.{ℕ}
 use lib.Dec.{leb, ltb, eqb}
 use lib.ListN.{length}
 use Rattle.operation.proofs.Tests.{false-is-true}
-use Rattle.bus_state.specs.Memory.{Memory, slotCount, payloadBytes, queueBytes}
+use Rattle.bus_state.specs.Memory.{Memory, slotCount, payloadBytes, queueBytes, lentWell}
 use Rattle.bus_state.specs.Valid.{validState}
 use Rattle.bus_state.specs.declared.State.{State}
 use Rattle.slots.specs.declared.Slot.{Slot}
@@ -17,7 +17,7 @@ use Rattle.bus.specs.Left.{Scanned}
 use Rattle.plain_bus.specs.Refusal.{badNodeCount, invalid, notAttached, roomTooSmall}
 use Rattle.plain_bus.specs.Calls.{accepted, collected}
 use Rattle.bus_model.specs.Primitives.{entryAt, emptyQueue, startMemory}
-use Rattle.bus_model.specs.Calls.{Result, wrongMemory, replies, refusing, lentWell, checked, attachedIn, noStart, startIn, queueAt, collection}
+use Rattle.bus_model.specs.Calls.{Result, wrongMemory, replies, refusing, checked, attachedIn, noStart, startIn, queueAt, collection}
 
 wrong-second : (p q r : Bool) → q ≡ false → (p && q && r) ≡ false
 wrong-second true true r e = false-is-true (sym e)

@@ -6,8 +6,8 @@ use lib.ListN.{length}
 use borrow.Author.Tests.{eq-eqb}
 use Rattle.plain_bus.specs.Held.{Bus}
 use Rattle.plain_bus.specs.Calls.{Answer, gives}
-use Rattle.bus_state.specs.Memory.{Memory, view}
-use Rattle.bus_model.specs.Calls.{Result, replies, lentWell, checked}
+use Rattle.bus_state.specs.Memory.{Memory, view, lentWell}
+use Rattle.bus_model.specs.Calls.{Result, replies, checked}
 use Rattle.bus_model.specs.Refines.{Sized, Refines}
 use Rattle.bus_model.proofs.Validity.{Good, good-valid}
 

@@ -1,27 +1,28 @@
 -- A slot that holds a frame which meets the content rules: its numbers fit their fields, its data their bytes, and its bytes read
 -- as its Transmit.
 -- Assumes nothing.
-use mathlib.Core.Path.{_≡_, refl, sym, ap, _∙_}
-use Prim.Native.Nat.{ℕ, _+_, _≤_, _<_}
+use mathlib.Core.Path.{_≡_, refl}
+use Prim.Native.Nat.{ℕ, _≤_, _<_}
 use native.Mathlib.Omega.{arith}
-use mathlib.Core.Bool.{Bool, true, false, cond, _||_}
-use mathlib.Core.List.{List, [], _∷_, append-nil}
+use mathlib.Core.Bool.{Bool, true, false, cond}
+use mathlib.Core.List.{List}
 use lib.Dec.{leb, eqb, lit≤}
 use lib.ListN.{length}
-use borrow.Author.Tests.{leb-true, eqb-true}
-use Rattle.operation.specs.Format.{headLength, dataLength, lengthOf, encode, TypedOperation}
-use Rattle.operation.specs.Rules.{oneOf, maxId, fdLength, rules, legal}
+use borrow.Author.Tests.{leb-true}
+use Rattle.operation.specs.Format.{dataLength, encode, TypedOperation}
+use Rattle.operation.specs.Rules.{maxId, rules, legal}
 use Rattle.operation.specs.declared.Operation.{Operation}
-use Rattle.operation.specs.declared.Operation.the-variants.{FormatError, CanTransmit, FdTransmit, XlTransmit, Confirm, ArbitrationLost, BusError, Configuration, Status, Wakeup}
+use Rattle.operation.specs.declared.Operation.the-variants.{CanTransmit, FdTransmit, XlTransmit}
+use Rattle.operation.proofs.Sizes.{fd-short}
 use Rattle.operation.proofs.Tests.{false-is-true, both, passed}
-use Rattle.slots.specs.Slots.{contentOf, legalContent}
+use Rattle.slots.specs.Slots.{contentOf, heldIn, legalContent}
 use Rattle.slots.specs.declared.Slot.{Slot}
+use Rattle.slots.proofs.Contents.{by-kind}
 use Rattle.slots.specs.declared.Content.{Content}
 use Rattle.slots.specs.declared.Content.the-variants.{Free, Transmit}
 use Rattle.operation.specs.Kinds.{isTransmit}
-use Rattle.plain_bus.specs.Valid.{ReadsWhole}
+use Rattle.plain_bus.proofs.ValidBus.{ReadsWhole}
 use Rattle.plain_bus.proofs.Codec.{reads-written}
-use Rattle.slots.specs.Slots.{heldIn}
 use Rattle.bus_model.specs.Refines.{TypedSlot}
 
 pub max-id : (ide : ℕ) → maxId ide ≤ 536_870_911
@@ -30,41 +31,6 @@ max-id ide = go (eqb ide 0)
     go : (t : Bool) → cond t 2_047 536_870_911 ≤ 536_870_911
     go true = lit≤ tt
     go false = lit≤ tt
-
-pub one-small : (x y : ℕ) (r : Bool) {P : Type 0} → (eqb x y || r) ≡ true → (x ≡ y → P) → (r ≡ true → P) → P
-one-small x y r {P} e f g = go (eqb x y) refl e
-  where
-    go : (t : Bool) → eqb x y ≡ t → (t || r) ≡ true → P
-    go true q e = f (eqb-true x y q)
-    go false q e = g e
-
-pub fd-short : (dl : ℕ) → fdLength dl ≡ true → dl ≤ 64
-unfolding fdLength oneOf
-fd-short dl e = go (leb dl 8) refl e
-  where
-    go : (t : Bool) → leb dl 8 ≡ t → (t || oneOf dl (12 ∷ 16 ∷ 20 ∷ 24 ∷ 32 ∷ 48 ∷ 64 ∷ [])) ≡ true → dl ≤ 64
-    go true q e = omega (arith, leb-true dl 8 q)
-    go false q e =
-        one-small dl 12 _ e (λ q. omega arith)
-        (λ e. one-small dl 16 _ e (λ q. omega arith)
-        (λ e. one-small dl 20 _ e (λ q. omega arith)
-        (λ e. one-small dl 24 _ e (λ q. omega arith)
-        (λ e. one-small dl 32 _ e (λ q. omega arith)
-        (λ e. one-small dl 48 _ e (λ q. omega arith) (λ e. one-small dl 64 _ e (λ q. omega arith) (λ e. false-is-true e)))))))
-
--- a Transmit that meets the content rules has at most 2,048 data bytes
-pub transmit-short : (op : Operation) → isTransmit op ≡ true → legal op ≡ true → dataLength op ≤ 2_048
-unfolding legal rules
-transmit-short (FormatError n) t l = false-is-true t
-transmit-short (CanTransmit id ide rtr dl) t l = omega (arith, leb-true dl 8 (passed _ l 3))
-transmit-short (FdTransmit id ide brs esi dl) t l = omega (arith, fd-short dl (passed _ l 4))
-transmit-short (XlTransmit id ide sec sdt vcid af dl) t l = leb-true dl 2_048 (both (leb 1 dl) (leb dl 2_048) (passed _ l 3) .1)
-transmit-short (Confirm id) t l = false-is-true t
-transmit-short (ArbitrationLost id) t l = false-is-true t
-transmit-short (BusError id code flag sender) t l = false-is-true t
-transmit-short (Configuration kind value) t l = false-is-true t
-transmit-short (Status status) t l = false-is-true t
-transmit-short Wakeup t l = false-is-true t
 
 -- ---- what a slot holds
 
@@ -112,22 +78,10 @@ xl-lawful id ide sec sdt vcid af dl l hs hv ha =
       short = omega arith;
     }
 
--- by the three tests of the slot's kind
-abbrev contentBy : Slot → Bool → Bool → Bool → Content
-contentBy s a b c =
-    cond a (Transmit (CanTransmit (s .id) (s .first) (s .second) (s .length)))
-    (cond b (Transmit (FdTransmit (s .id) (s .first) (s .second) (s .third) (s .length)))
-    (cond c (Transmit (XlTransmit (s .id) (s .first) (s .second) (s .third) (s .fourth) (s .af) (s .length))) Free))
-
 pub slot-lawful : (s : Slot) → TypedSlot s → legalContent (contentOf s) ≡ true → Lawful (heldIn (contentOf s))
-unfolding contentOf
-slot-lawful s t = go (eqb (s .kind) 0x10) (eqb (s .kind) 0x11) (eqb (s .kind) 0x12)
-  where
-    go : (a b c : Bool) → legalContent (contentBy s a b c) ≡ true → Lawful (heldIn (contentBy s a b c))
-    go true b c l = can-lawful _ _ _ _ l
-    go false true c l = fd-lawful _ _ _ _ _ l
-    go false false true l = xl-lawful _ _ _ _ _ _ _ l (t .third) (t .fourth) (t .af)
-    go false false false l = false-is-true l
+slot-lawful s t =
+    by-kind (λ c. legalContent c ≡ true → Lawful (heldIn c)) s (λ l. can-lawful _ _ _ _ l) (λ l. fd-lawful _ _ _ _ _ l)
+    (λ l. xl-lawful _ _ _ _ _ _ _ l (t .third) (t .fourth) (t .af)) (λ l. false-is-true l)
 
 -- and the other way
 pub content-legal : (c : Content) → isTransmit (heldIn c) ≡ true → legal (heldIn c) ≡ true → legalContent c ≡ true

@@ -14,12 +14,12 @@ use Rattle.plain_bus.specs.Refusal.{badNodeCount, invalid, notAttached, bufferT
 use Rattle.plain_bus.specs.Order.{Entry, Winner, nobody, wins}
 use Rattle.plain_bus.specs.Round.{Injection, isErrored, winnerId}
 use Rattle.plain_bus.specs.Calls.{refused, accepted, idle, carried, collected, maxSubmit}
-use Rattle.bus_state.specs.Memory.{Memory}
+use Rattle.bus_state.specs.Memory.{Memory, lentWell}
 use Rattle.bus_state.specs.Valid.{validState}
 use Rattle.bus_model.specs.Primitives.{entryAt, emptyQueue, startMemory}
 use Rattle.bus_model.specs.Submit.{Progress, goesOn, stops, roomForEach, itemsIn}
 use Rattle.bus_model.specs.Round.{winnerIn, owedAt, afterRoundIn}
-use Rattle.bus_model.specs.Calls.{Reply, wrongMemory, answers, replyDone, Result, replies, refusing, lentWell, checked, attachedIn, noStart, startIn, takenIn, submitted, submitIn, wrongInjectionIn, arbitrateIn, rounded, roundIn, queueAt, collection, collectIn, bufferAfter}
+use Rattle.bus_model.specs.Calls.{Reply, wrongMemory, answers, replyDone, Result, replies, refusing, checked, attachedIn, noStart, startIn, takenIn, submitted, submitIn, wrongInjectionIn, arbitrateIn, rounded, roundIn, queueAt, collection, collectIn, bufferAfter}
 
 -- ---- 1 and 3
 

@@ -12,7 +12,7 @@ use Rattle.plain_bus.specs.Order.{Entry, Winner, nobody, wins, winner}
 use Rattle.plain_bus.specs.Round.{Injection, isErrored, winnerId, owed, settle, afterRound, age}
 use Rattle.plain_bus.specs.Calls.{refused, idle, carried, gives, refuses, wrongInjection, arbitrate, runRound}
 use Rattle.plain_bus.specs.Session.{round}
-use Rattle.plain_bus.specs.Valid.{ValidNode, Valid}
+use Rattle.plain_bus.proofs.ValidBus.{ValidNode, Valid}
 use Rattle.plain_bus.proofs.Nodes.{length-each, each-at}
 use Rattle.plain_bus.proofs.Winner.{winner-pending}
 use Rattle.plain_bus.proofs.Preserved.{valid-kept}

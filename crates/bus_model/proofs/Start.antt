@@ -14,9 +14,9 @@ use Rattle.plain_bus.specs.Held.{newNode, newBus}
 use Rattle.plain_bus.specs.Calls.{accepted, gives, start}
 use Rattle.plain_bus.proofs.Preserved.{start-valid}
 use Rattle.buffers.specs.Parts.{part}
-use Rattle.bus_state.specs.Memory.{Memory, noNode, slotAt, framesFrom, nodeView, nodesFrom, view}
+use Rattle.bus_state.specs.Memory.{Memory, noNode, slotAt, framesFrom, nodeView, nodesFrom, view, lentWell}
 use Rattle.bus_model.specs.Primitives.{entryAt, newEntry, newState, startMemory}
-use Rattle.bus_model.specs.Calls.{answers, replies, lentWell, startIn}
+use Rattle.bus_model.specs.Calls.{answers, replies, startIn}
 use Rattle.bus_model.specs.Refines.{Sized, Refines}
 use Rattle.bus_model.proofs.Buses.{view-is}
 use Rattle.bus_model.proofs.Validity.{Good}

@@ -21,10 +21,11 @@ use Rattle.decoder.proofs.Found.{found}
 use Rattle.decoder.proofs.Decoded.{decoded}
 use Rattle.slots.specs.Slots.{slotOf}
 use Rattle.operation.specs.Kinds.{isTransmit}
+use Rattle.operation.proofs.Sizes.{transmit-short}
 use Rattle.plain_bus.specs.Held.{Node, queueCapacity, busOff, isOff, withStatus, withBehaviour, withRates, withQueue, withNode, withNodes, eachNode, allHaveRoom, enqueue}
 use Rattle.plain_bus.specs.Refusal.{fourPending, queueFull}
 use Rattle.plain_bus.specs.Submit.{Step, done, fails, accept, takeTransmit, configure, cleared, setStatus, wakeupFor, wake, takeWakeup, formatError, answerFormatError, unanswered, takeItem}
-use Rattle.plain_bus.specs.Valid.{ReadsWhole, ValidNode}
+use Rattle.plain_bus.proofs.ValidBus.{ReadsWhole, ValidNode}
 use Rattle.plain_bus.proofs.Codec.{reads-format-error, reads-wakeup}
 use Rattle.plain_bus.proofs.Whole.{ValidItem}
 use Rattle.plain_bus.proofs.Changes.{joined, configured, statusSet, answered}
@@ -38,7 +39,6 @@ use Rattle.bus_model.specs.Refines.{Sized, TypedSlot}
 use Rattle.bus_model.proofs.Writes.{Same}
 use Rattle.bus_model.proofs.Views.{same-view, entryView, length-frames}
 use Rattle.bus_model.proofs.Puts.{slot-signed, put-view, put-others, put-sized, put-entry, put-slot, put-slots}
-use Rattle.bus_model.proofs.Lawful.{transmit-short}
 use Rattle.bus_model.proofs.Buses.{view-length, view-at, view-round}
 use Rattle.bus_model.proofs.Validity.{Good, good-node, good-number, good-fits, queue-length}
 use Rattle.bus_model.proofs.Touched.{same-tidy, good-tidy, Touched, touched-view, touched-good, touched-trans, touched-as, untouched, valid-set, valid-each, entry-touched, append-touched}

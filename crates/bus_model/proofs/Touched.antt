@@ -12,7 +12,7 @@ use lib.Seq.{getD-set-same, getD-set-other}
 use borrow.Author.Tests.{ltb-true, ltb-false}
 use Rattle.plain_bus.specs.Held.{Node, Bus, lastRound, newNode, nodeAt, withNode, withPending, withNodes, withRound, eachNode, enqueue}
 use Rattle.plain_bus.specs.Round.{without}
-use Rattle.plain_bus.specs.Valid.{ValidNode, Valid}
+use Rattle.plain_bus.proofs.ValidBus.{ValidNode, Valid}
 use Rattle.plain_bus.proofs.Nodes.{length-each, each-at}
 use Rattle.plain_bus.proofs.Preserved.{by-number}
 use Rattle.bus_state.specs.Memory.{Memory, slotAt, nodeView, view}

@@ -7,7 +7,7 @@ use mathlib.Core.Bool.{true}
 use mathlib.Core.List.{List}
 use lib.ListN.{length}
 use Rattle.plain_bus.specs.Held.{Node, Bus, withNodes, eachNode, everyNode, hasRoom, allHaveRoom}
-use Rattle.plain_bus.specs.Valid.{ValidNode, Valid}
+use Rattle.plain_bus.proofs.ValidBus.{ValidNode, Valid}
 use Rattle.plain_bus.proofs.Nodes.{room-at}
 use Rattle.plain_bus.proofs.Preserved.{by-number}
 use Rattle.bus_state.specs.Memory.{Memory, nodeView, nodesFrom, view}

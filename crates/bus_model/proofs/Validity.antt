@@ -1,32 +1,31 @@
--- Validity as the test decides it, and of the view: both ways. `Good` is what every step of a call keeps.
+-- From the test to validity of the view, and back: with memory as its types and sizes say, the test passes exactly where the view is
+-- valid, the fills are within the queues and the slots name their owners. `Good` has all of these, and every step of a call keeps it.
 -- Assumes nothing.
 use mathlib.Core.Path.{_≡_, refl, sym, ap, _∙_}
 use Prim.Native.Nat.{ℕ, zero, suc, _+_, _*_, _≤_, _<_}
 use native.Mathlib.Omega.{arith}
-use native.Mathlib.Nat.{add-zero, zero-add}
-use mathlib.Core.Bool.{Bool, true, false, not, _&&_, _||_}
+use native.Mathlib.Nat.{add-zero}
+use mathlib.Core.Bool.{true}
 use mathlib.Core.List.{List, [], _∷_}
-use lib.Dec.{leb, eqb}
+use lib.Dec.{leb}
 use lib.ListN.{length}
-use borrow.Author.Tests.{leb-true, eqb-true, le-leb, eq-eqb}
+use borrow.Author.Tests.{leb-true, le-leb}
 use Rattle.operation.specs.Format.{dataLength}
-use Rattle.operation.specs.Rules.{oneOf, statuses, behaviours}
-use Rattle.operation.proofs.Tests.{false-is-true, both}
+use Rattle.operation.proofs.Sizes.{transmit-short}
+use Rattle.operation.proofs.Tests.{both}
 use Rattle.slots.specs.Slots.{contentOf, legalContent}
-use Rattle.slots.specs.declared.Slot.{Slot}
-use Rattle.plain_bus.specs.Held.{Node, busOff}
-use Rattle.plain_bus.specs.Valid.{ValidFrame, ValidFrames, NonZero, ValidNode, Valid}
+use Rattle.plain_bus.specs.Held.{Node}
+use Rattle.plain_bus.proofs.ValidBus.{ValidFrame, ValidFrames, NonZero, ValidNode, Valid}
 use Rattle.plain_bus.proofs.Validity.{frame-legal}
-use Rattle.bus_state.specs.Memory.{Memory, nodeState, slotAt, operationAt, frameAt, framesFrom, nodeView, view}
-use Rattle.bus_state.specs.Valid.{validSlot, validSlots, nonZero, validEntry, validNode, validNodes, validState}
-use Rattle.bus_state.specs.declared.State.{State}
-use Rattle.bus_state.specs.declared.NodeState.{NodeState}
+use Rattle.bus_state.specs.Memory.{Memory, slotAt, operationAt, frameAt, framesFrom, nodeView, view}
+use Rattle.bus_state.specs.Valid.{validSlots, nonZero, validState}
+use Rattle.bus_state.proofs.Validity.{slot-is, is-slot, slots-at, NodeIs, valid-count, valid-node-at, nodes-valid}
 use Rattle.bus_model.specs.Primitives.{entryAt}
 use Rattle.bus_model.specs.Refines.{TypedMemory}
 use Rattle.buffers.proofs.Offsets.{length-part}
 use Rattle.bus_model.proofs.Views.{Fits, length-frames, queue-filled}
 use Rattle.bus_model.proofs.Buses.{view-length, view-at, view-round}
-use Rattle.bus_model.proofs.Lawful.{slot-lawful, content-legal, lawful-reads, transmit-short}
+use Rattle.bus_model.proofs.Lawful.{slot-lawful, content-legal, lawful-reads}
 
 -- the slots of node j's frames name it as their owner
 abbrev pub Owned : Memory → ℕ → Type 0
@@ -39,30 +38,6 @@ pub record Good (m : Memory) : Type 0 where
   pub owned : (j : ℕ) → j < m .state .count → Owned m j
 
 -- ---- slots
-
-pub record SlotIs (j low now : ℕ) (s : Slot) : Type 0 where
-  pub lawful : legalContent (contentOf s) ≡ true
-  pub owner : s .owner ≡ j
-  pub least : low ≤ s .accepted
-  pub most : s .accepted ≤ now
-
-pub slot-is : (j low now : ℕ) (s : Slot) → validSlot j low now s ≡ true → SlotIs j low now s
-unfolding validSlot
-slot-is j low now s e =
-    let a = both _ _ e in
-    let b = both _ _ (a .0) in
-    let c = both _ _ (b .0) in
-    record {
-      lawful = c .0;
-      owner = eqb-true (s .owner) j (c .1);
-      least = leb-true low (s .accepted) (b .1);
-      most = leb-true (s .accepted) now (a .1);
-    }
-
-is-slot : (j low now : ℕ) (s : Slot) → SlotIs j low now s → validSlot j low now s ≡ true
-unfolding validSlot
-is-slot j low now s v =
-    rw (v .lawful, eq-eqb (s .owner) j (v .owner), le-leb low (s .accepted) (v .least), le-leb (s .accepted) now (v .most))
 
 module _ (m : Memory) (j now : ℕ) (t : TypedMemory m) where
   frame-valid : (p : ℕ) → p < 32 → legalContent (contentOf (slotAt m p)) ≡ true → ValidFrame (frameAt m p)
@@ -81,15 +56,6 @@ module _ (m : Memory) (j now : ℕ) (t : TypedMemory m) where
       let a = both _ _ e in
       let s = slot-is j low now (slotAt m p) (a .0) in
       (frame-valid p (omega arith) (s .lawful), s .least, s .most, slots-frames n (suc p) (slotAt m p .accepted) (omega arith) (a .1))
-
-  slots-owner : (n p low : ℕ) → validSlots n p j low now (m .slots) ≡ true → (i : ℕ) → i < n → slotAt m (p + i) .owner ≡ j
-  unfolding validSlots
-  slots-owner zero p low e i h = absurd (omega arith)
-  slots-owner (suc n) p low e zero h = rw add-zero (slot-is j low now (slotAt m p) (both _ _ e .0) .owner)
-  slots-owner (suc n) p low e (suc i) h =
-      let q : suc p + i ≡ p + suc i = omega arith in
-      let a = both (validSlot j low now (slotAt m p)) _ e in
-      rw q at (slots-owner n (suc p) (slotAt m p .accepted) (a .1) i (omega arith))
 
   frames-slots : (n p low : ℕ) → ValidFrames low now (framesFrom m p n) → ((i : ℕ) → i < n → slotAt m (p + i) .owner ≡ j)
       → validSlots n p j low now (m .slots) ≡ true
@@ -131,79 +97,9 @@ unfolding nonZero
 zero-free [] v = refl
 zero-free (x ∷ l) v = rw (le-leb 1 x (v .0)) (zero-free l (v .1))
 
-pub record EntryIs (d : NodeState) : Type 0 where
-  pub status : oneOf (d .status) statuses ≡ true
-  pub behaviour : oneOf (d .behaviour) behaviours ≡ true
-  pub rates : nonZero (d .rates) ≡ true
-  pub fill : d .fill ≤ 4_096
-  pub few : d .pending ≤ 4
-  pub silent : eqb (d .status) busOff ≡ true → d .pending ≡ 0
-
-pub entry-is : (d : NodeState) → validEntry d ≡ true → EntryIs d
-unfolding validEntry
-entry-is d e =
-    let a = both _ (not (eqb (d .status) busOff) || eqb (d .pending) 0) e in
-    let b = both _ (leb (d .pending) 4) (a .0) in
-    let c = both _ (leb (d .fill) 4_096) (b .0) in
-    let f = both _ (nonZero (d .rates)) (c .0) in
-    let g = both _ (oneOf (d .behaviour) behaviours) (f .0) in
-    record {
-      status = g .0;
-      behaviour = g .1;
-      rates = f .1;
-      fill = leb-true (d .fill) 4_096 (c .1);
-      few = leb-true (d .pending) 4 (b .1);
-      silent = λ q. quiet (eqb (d .status) busOff) (a .1) q;
-    }
-  where
-    quiet : (t : Bool) → (not t || eqb (d .pending) 0) ≡ true → t ≡ true → d .pending ≡ 0
-    quiet true e q = eqb-true (d .pending) 0 e
-    quiet false e q = false-is-true q
-
-is-entry : (d : NodeState) → EntryIs d → validEntry d ≡ true
-unfolding validEntry
-is-entry d v =
-    rw (v .status, v .behaviour, v .rates, le-leb (d .fill) 4_096 (v .fill), le-leb (d .pending) 4 (v .few))
-    (quiet (eqb (d .status) busOff) (v .silent))
-  where
-    quiet : (t : Bool) → (t ≡ true → d .pending ≡ 0) → (not t || eqb (d .pending) 0) ≡ true
-    quiet true f = eq-eqb (d .pending) 0 (f refl)
-    quiet false f = refl
-
 -- ---- nodes
 
-pub nodes-valid-at : (n j : ℕ) (s : State) (slots : List Slot) → validNodes n j s slots ≡ true → (i : ℕ) → i < n
-    → validNode (s .round) (j + i) (nodeState s (j + i)) slots ≡ true
-unfolding validNodes
-nodes-valid-at zero j s slots e i h = absurd (omega arith)
-nodes-valid-at (suc n) j s slots e zero h = rw add-zero (both (validNode (s .round) j (nodeState s j) slots) _ e .0)
-nodes-valid-at (suc n) j s slots e (suc i) h =
-    let q : suc j + i ≡ j + suc i = omega arith in
-    let a = both (validNode (s .round) j (nodeState s j) slots) _ e in
-    rw q at (nodes-valid-at n (suc j) s slots (a .1) i (omega arith))
-
-at-nodes-valid : (n j : ℕ) (s : State) (slots : List Slot)
-    → ((i : ℕ) → i < n → validNode (s .round) (j + i) (nodeState s (j + i)) slots ≡ true) → validNodes n j s slots ≡ true
-unfolding validNodes
-at-nodes-valid zero j s slots f = refl
-at-nodes-valid (suc n) j s slots f =
-    let a : validNode (s .round) j (nodeState s j) slots ≡ true = rw add-zero at (f 0 (omega arith)) in
-    rw (a, at-nodes-valid n (suc j) s slots (λ i h. next i (f (suc i) (omega arith))))
-  where
-    next : (i : ℕ) → validNode (s .round) (j + suc i) (nodeState s (j + suc i)) slots ≡ true
-        → validNode (s .round) (suc j + i) (nodeState s (suc j + i)) slots ≡ true
-    next i e = let q : j + suc i ≡ suc j + i = omega arith in rw q at e
-
--- what the test says of one node
-pub record NodeIs (m : Memory) (j : ℕ) : Type 0 where
-  pub entry : EntryIs (entryAt m j)
-  pub slots : validSlots (entryAt m j .pending) (4 * j) j 0 (m .state .round) (m .slots) ≡ true
-
-pub node-is : (m : Memory) (j : ℕ) → validNode (m .state .round) j (entryAt m j) (m .slots) ≡ true → NodeIs m j
-unfolding validNode
-node-is m j e = let a = both (validEntry (entryAt m j)) _ e in record { entry = entry-is (entryAt m j) (a .0); slots = a .1 }
-
-node-valid : (m : Memory) (j : ℕ) → TypedMemory m → j < 8 → NodeIs m j → ValidNode (m .state .round) (nodeView m j)
+node-valid : (m : Memory) (j : ℕ) → TypedMemory m → j < 8 → NodeIs (m .state) (m .slots) j → ValidNode (m .state .round) (nodeView m j)
 unfolding nodeView framesFrom
 node-valid m j t h v = record {
   status = v .entry .status;
@@ -217,66 +113,46 @@ node-valid m j t h v = record {
   frames = slots-frames m j (m .state .round) t (entryAt m j .pending) (4 * j) 0 (omega (arith, v .entry .few)) (v .slots);
 }
 
-valid-node : (m : Memory) (j : ℕ) → TypedMemory m → entryAt m j .fill ≤ 4_096 → Owned m j → ValidNode (m .state .round) (nodeView m j)
-    → validNode (m .state .round) j (entryAt m j) (m .slots) ≡ true
-unfolding nodeView validNode
-valid-node m j t f o v =
-    rw (is-entry (entryAt m j) (record {
-      status = v .status;
-      behaviour = v .behaviour;
-      rates = zero-free (entryAt m j .rates) (v .rates);
-      fill = f;
-      few = rw (length-frames m (4 * j) (entryAt m j .pending)) at (v .few);
-      silent = λ q. sym (length-frames m (4 * j) (entryAt m j .pending)) ∙ ap length (v .silent q);
-    }))
-    (frames-slots m j (m .state .round) t (entryAt m j .pending) (4 * j) 0 (v .frames) o)
+node-passes : (m : Memory) (j : ℕ) → TypedMemory m → entryAt m j .fill ≤ 4_096 → Owned m j → ValidNode (m .state .round) (nodeView m j)
+    → NodeIs (m .state) (m .slots) j
+unfolding nodeView
+node-passes m j t f o v = record {
+  entry = record {
+    status = v .status;
+    behaviour = v .behaviour;
+    rates = zero-free (entryAt m j .rates) (v .rates);
+    fill = f;
+    few = rw (length-frames m (4 * j) (entryAt m j .pending)) at (v .few);
+    silent = λ q. sym (length-frames m (4 * j) (entryAt m j .pending)) ∙ ap length (v .silent q);
+  };
+  slots = frames-slots m j (m .state .round) t (entryAt m j .pending) (4 * j) 0 (v .frames) o;
+}
 
 -- ---- the whole
 
--- what the test says of the count and of each attached node
-pub valid-count : (m : Memory) → validState (m .state) (m .slots) ≡ true → (2 ≤ m .state .count) × (m .state .count ≤ 8)
-unfolding validState
-valid-count m e =
-    let a = both _ (validNodes (m .state .count) 0 (m .state) (m .slots)) e in
-    let b = both (leb 2 (m .state .count)) (leb (m .state .count) 8) (a .0) in
-    (leb-true 2 (m .state .count) (b .0), leb-true (m .state .count) 8 (b .1))
-
-pub valid-node-at : (m : Memory) → validState (m .state) (m .slots) ≡ true → (j : ℕ) → j < m .state .count → NodeIs m j
-unfolding validState
-valid-node-at m e j h =
-    let a = both (leb 2 (m .state .count) && leb (m .state .count) 8) (validNodes (m .state .count) 0 (m .state) (m .slots)) e in
-    node-is m j (rw zero-add at (nodes-valid-at (m .state .count) 0 (m .state) (m .slots) (a .1) j h))
-
 pub valid-good : (m : Memory) → TypedMemory m → validState (m .state) (m .slots) ≡ true → Good m
 valid-good m t e =
-    let at = valid-node-at m e in
-    let most = valid-count m e .1 in
+    let at = valid-node-at (m .state) (m .slots) e in
+    let count = valid-count (m .state) (m .slots) e in
     record {
       typed = t;
       valid = record {
-        least = rw (view-length m) (valid-count m e .0);
-        most = rw (view-length m) most;
+        least = rw (view-length m) (count .0);
+        most = rw (view-length m) (count .1);
         round = rw (view-round m) (t .round);
         each = λ k h.
             let h′ : k < m .state .count = rw (view-length m) at h in
-            rw (view-at m k h′, view-round m) (node-valid m k t (omega arith) (at k h′));
+            rw (view-at m k h′, view-round m) (node-valid m k t (omega (arith, count .1)) (at k h′));
       };
       fill = λ j h. at j h .entry .fill;
-      owned = λ j h. slots-owner m j (m .state .round) t (entryAt m j .pending) (4 * j) 0 (at j h .slots);
+      owned = λ j h q l. slots-at (m .slots) j (m .state .round) (entryAt m j .pending) (4 * j) 0 (at j h .slots) q l .owner;
     }
 
 pub good-valid : (m : Memory) → Good m → validState (m .state) (m .slots) ≡ true
-unfolding validState
 good-valid m g =
-    let least : 2 ≤ m .state .count = rw (view-length m) at (g .valid .least) in
-    let most : m .state .count ≤ 8 = rw (view-length m) at (g .valid .most) in
-    rw (le-leb 2 (m .state .count) least, le-leb (m .state .count) 8 most)
-    (at-nodes-valid (m .state .count) 0 (m .state) (m .slots) (λ i h. rw zero-add (at i h)))
-  where
-    at : (i : ℕ) → i < m .state .count → validNode (m .state .round) i (entryAt m i) (m .slots) ≡ true
-    at i h =
-        let v = g .valid .each i (rw (view-length m) h) in
-        valid-node m i (g .typed) (g .fill i h) (g .owned i h) (rw (view-at m i h, view-round m) at v)
+    nodes-valid (m .state) (m .slots) (rw (view-length m) at (g .valid .least)) (rw (view-length m) at (g .valid .most)) (λ j h.
+    let v = g .valid .each j (rw (view-length m) h) in
+    node-passes m j (g .typed) (g .fill j h) (g .owned j h) (rw (view-at m j h, view-round m) at v))
 
 -- ---- one node, by number
 

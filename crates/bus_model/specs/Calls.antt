@@ -4,7 +4,7 @@
 use Prim.Native.Nat.{ℕ, _-_, _*_}
 use mathlib.Core.List.{List}
 use mathlib.Core.Bool.{Bool, false, cond, not, _&&_, _||_}
-use lib.Dec.{leb, ltb, eqb}
+use lib.Dec.{leb, ltb}
 use lib.ListN.{length}
 use Rattle.operation.specs.Rules.{oneOf, errorCodes}
 use Rattle.buffers.specs.Parts.{part, over}
@@ -14,7 +14,7 @@ use Rattle.plain_bus.specs.Refusal.{Refusal, badNodeCount, invalid, notAttached
 use Rattle.plain_bus.specs.Order.{Winner, nobody, wins}
 use Rattle.plain_bus.specs.Round.{Injection, noError, injected, isErrored, winnerId}
 use Rattle.plain_bus.specs.Calls.{Answer, refused, accepted, idle, carried, collected, isDone, answerNumber, maxSubmit}
-use Rattle.bus_state.specs.Memory.{Memory, slotCount, payloadBytes, queueBytes, bytesPerQueue}
+use Rattle.bus_state.specs.Memory.{Memory, bytesPerQueue, lentWell}
 use Rattle.bus_state.specs.Valid.{validState}
 use Rattle.bus_model.specs.Primitives.{entryAt, offAt, withState, emptyQueue, newState, startMemory}
 use Rattle.bus_model.specs.Submit.{Progress, goesOn, stops, roomForEach, itemsIn}
@@ -42,10 +42,6 @@ replies a m = record { reply = answers a; memory = m }
 
 abbrev pub refusing : Refusal → Memory → Result
 refusing r m = replies (refused r) m
-
--- as much is lent as there has to be
-unfoldable pub lentWell : Memory → Bool
-lentWell m = eqb (length (m .slots)) slotCount && eqb (length (m .payload)) payloadBytes && eqb (length (m .queues)) queueBytes
 
 -- 1 and 3 in front of what a call does
 unfoldable pub checked : Memory → Result → Result

@@ -14,7 +14,8 @@ use Rattle.plain_bus.specs.Held.{busOff}
 use Rattle.slots.specs.Slots.{contentOf, legalContent}
 use Rattle.slots.specs.declared.Slot.{Slot}
 use Rattle.bus_state.specs.Memory.{bytesPerQueue}
-use Rattle.bus_state.specs.Valid.{nonZero, validEntry, slotFollows}
+use Rattle.bus_state.specs.Valid.{nonZero, validEntry}
+use Rattle.bus_state.specs.Follows.{slotFollows}
 use Rattle.bus_state.specs.declared.NodeState.{NodeState}
 
 -- three baud rates, each tested

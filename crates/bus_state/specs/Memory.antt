@@ -1,8 +1,10 @@
 -- The state and the lent memory together, and what the plain bus reads from them: its view (01, "What the bus holds").
 -- Assumes nothing.
-use Prim.Native.Nat.{ℕ, zero, suc, _+_, _*_}
+use Prim.Native.Nat.{ℕ, zero, suc, _*_}
 use mathlib.Core.List.{List, [], _∷_}
-use lib.ListN.{getD}
+use mathlib.Core.Bool.{Bool, _&&_}
+use lib.Dec.{eqb}
+use lib.ListN.{length, getD}
 use Rattle.buffers.specs.Parts.{part}
 use Rattle.operation.specs.Format.{dataLength, encode}
 use Rattle.operation.specs.declared.Operation.{Operation}
@@ -39,6 +41,10 @@ bytesPerSlot = 2_048
 
 abbrev pub bytesPerQueue : ℕ
 bytesPerQueue = 4_096
+
+-- as much is lent as there has to be
+unfoldable pub lentWell : Memory → Bool
+lentWell m = eqb (length (m .slots)) slotCount && eqb (length (m .payload)) payloadBytes && eqb (length (m .queues)) queueBytes
 
 -- an entry that says nothing, for numbers past the last
 abbrev pub noNode : NodeState

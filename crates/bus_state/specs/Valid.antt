@@ -1,6 +1,4 @@
--- When a state with its slots is valid, as a test (01: sound, "What the bus holds"). Nothing is asked of nodes that are not attached
--- and of slots that hold no frame. That no two frames share a slot or a stored byte, and that they lie in the lent memory, is given
--- by the layout: each slot has its own bytes.
+-- Validity as a test on the state with its slots, by which refusal 3 goes. What it decides stands in Validity.antt, clause by clause.
 -- Assumes nothing.
 use Prim.Native.Nat.{ℕ, zero, suc, _*_}
 use mathlib.Core.List.{List, [], _∷_}
@@ -51,9 +49,3 @@ validNodes (suc n) j s slots = validNode (s .round) j (nodeState s j) slots && v
 
 unfoldable pub validState : State → List Slot → Bool
 validState s slots = leb 2 (s .count) && leb (s .count) 8 && validNodes (s .count) 0 s slots
-
--- ---- for the pass over the slots
-
--- what a valid slot has but for `now`: a pending frame of node j that may stand behind one accepted at round `low`
-unfoldable pub slotFollows : ℕ → ℕ → Slot → Bool
-slotFollows j low s = legalContent (contentOf s) && eqb (s .owner) j && leb low (s .accepted)

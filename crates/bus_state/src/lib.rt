@@ -5,7 +5,8 @@ ghost use Rattle.operation.specs.Rules.{oneOf, behaviours};
 ghost use lib.ListN.{set};
 ghost use Rattle.bus_state.specs.Memory.{nodeState};
 ghost use Rattle.bus_state.specs.Entries.{withEntry, entryStatus, entryBehaviour, entryRates, entryFill, entryPending};
-ghost use Rattle.bus_state.specs.Valid.{nonZero, validEntry, slotFollows};
+ghost use Rattle.bus_state.specs.Valid.{nonZero, validEntry};
+ghost use Rattle.bus_state.specs.Follows.{slotFollows};
 use slots::Slot;
 
 // What is held of one node besides its frames and its queue's bytes: its pending frames are slots 4j to 4j + pending - 1 of node j,

@@ -12,10 +12,12 @@ use Rattle.slots.specs.declared.Slot.{Slot}
 use Rattle.plain_bus.specs.Refusal.{badNodeCount}
 use Rattle.plain_bus.specs.Calls.{accepted, bytesGiven, start}
 use Rattle.plain_bus.specs.Register.{Update, updated, rejected, updateNumber, enter, read}
-use Rattle.bus_state.specs.Memory.{Memory, held, slotCount}
+use Rattle.bus_state.specs.Memory.{Memory, held, slotCount, lentWell}
+use Rattle.bus_state.specs.Valid.{validState}
 use Rattle.bus_state.specs.declared.State.{State}
+use Rattle.bus_state.proofs.Validity.{validity-tested}
 use Rattle.bus_model.specs.Primitives.{newState, startMemory}
-use Rattle.bus_model.specs.Calls.{wrongMemory, replies, refusing, lentWell, noStart, startIn, collectIn, bufferAfter}
+use Rattle.bus_model.specs.Calls.{wrongMemory, replies, refusing, noStart, startIn, collectIn, bufferAfter}
 use Rattle.bus_model.specs.Refines.{TypedMemory}
 use Rattle.bus_model.proofs.Refused as model
 use Rattle.bus_model.proofs.Start.{start-refines}
@@ -24,7 +26,7 @@ use Rattle.bus.specs.Left.{Left, leaves}
 use Rattle.open_frames.specs.Record.{openIn, answered}
 use Rattle.open_frames.specs.declared.Register.{Register}
 use Rattle.open_frames.specs.declared.RegisterAnswer.{RegisterAnswer}
-use Rattle.claims.specs.Demands.{Call, collects, SameAs, Demanded, Started, entered, closed, Enters, Closes}
+use Rattle.claims.specs.Demands.{Call, collects, Passes, SameAs, Demanded, Started, entered, closed, Enters, Closes}
 use Rattle.claims.proofs.Model.{leftBy, memoryOf, givenBy}
 use Rattle.claims.proofs.Answers.{left-memory, left-answer}
 use Rattle.claims.proofs.Numbers.{numbered, result-kept, call-kept, collect-past, start-number}
@@ -38,10 +40,13 @@ pub demanded-by : (m : Memory) (c : Call) → (lentWell m ≡ true → TypedMemo
 demanded-by m c t = record {
   number = numbered m c t;
   kept = call-kept m c;
-  same = λ p. same-as m c (t (p .lent)) (p .valid);
-  round = λ p n. if-round m c (t (p .lent)) (p .valid) n;
-  accepted = λ p. still-known m c (t (p .lent)) (p .valid);
+  same = λ p. same-as m c (t (p .lent)) (tested p);
+  round = λ p n. if-round m c (t (p .lent)) (tested p) n;
+  accepted = λ p. still-known m c (t (p .lent)) (tested p);
 }
+  where
+    tested : Passes m → validState (m .state) (m .slots) ≡ true
+    tested p = validity-tested m (p .lent) .1 (p .valid)
 
 pub demanded : (m : Memory) (c : Call) (l : Left) (out : List ℕ) → (lentWell m ≡ true → TypedMemory m) → l ≡ leftBy m c
     → out ≡ givenBy m c → Demanded c m (l .answer) out (memoryOf l)
@@ -106,11 +111,12 @@ start-same : (m : Memory) (count : ℕ) → Accepted m count
     → SameAs (start count) (leaves (startIn m count) .answer) [] (startIn m count .memory)
 start-same m count a =
     let s = start-refines m count (a .lent) (a .fits) in
+    let l = typed-lent (startIn m count .memory) (s .typed) in
     record {
       answer = left-answer (startIn m count) (start count .answer) (s .answer);
       bytes = sym (no-bytes count (a .fits));
       bus = s .bus;
-      passes = record { lent = typed-lent (startIn m count .memory) (s .typed); valid = s .valid };
+      passes = record { lent = l; valid = validity-tested (startIn m count .memory) l .0 (s .valid) };
     }
 
 pub started-by : (slots : List Slot) (payload queues : List ℕ) (count : ℕ)

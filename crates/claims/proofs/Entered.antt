@@ -36,8 +36,7 @@ use Rattle.slots.proofs.Slot as T
 use Rattle.lent_slots.proofs.Element.{looks-slots}
 use Rattle.bus_state.specs.declared.State.{State}
 use Rattle.bus_state.proofs.State as St
-use Rattle.bus_state.specs.Memory.{held}
-use Rattle.bus_model.specs.Calls.{lentWell}
+use Rattle.bus_state.specs.Memory.{held, lentWell}
 use Rattle.bus_model.specs.Refines.{TypedMemory}
 use Rattle.claims.proofs.Machine.{TypedSlots, slot-typed, free-typed, memory-typed}
 

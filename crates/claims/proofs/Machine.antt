@@ -17,7 +17,7 @@ use Rattle.slots.specs.Slots.{freeSlot}
 use Rattle.slots.specs.declared.Slot.{Slot}
 use Rattle.slots.proofs.Slot as T
 use Rattle.lent_slots.proofs.Element.{Slots}
-use Rattle.bus_state.specs.Memory.{held, noNode}
+use Rattle.bus_state.specs.Memory.{held, noNode, lentWell}
 use Rattle.bus_state.specs.declared.NodeState.{NodeState}
 use Rattle.bus_state.specs.declared.State.{State}
 use Rattle.bus_state.proofs.NodeState as N
@@ -25,7 +25,6 @@ use Rattle.bus_state.proofs.State as St
 use Rattle.kettlefrost.specs.declared.FlatOperation.{FlatOperation}
 use Rattle.kettlefrost.proofs.FlatOperation as F
 use Rattle.claims.proofs.Named.{TypedFlat}
-use Rattle.bus_model.specs.Calls.{lentWell}
 use Rattle.bus_model.specs.Refines.{TypedSlot, TypedMemory}
 
 -- ---- a slot, and each of some slots

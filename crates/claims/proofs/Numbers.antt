@@ -13,11 +13,11 @@ use Rattle.buffers.specs.Parts.{over}
 use Rattle.plain_bus.specs.Refusal.{badNodeCount}
 use Rattle.plain_bus.specs.Calls.{refused, accepted, idle, carried, collected}
 use Rattle.plain_bus.specs.Session as session
-use Rattle.bus_state.specs.Memory.{Memory, view}
+use Rattle.bus_state.specs.Memory.{Memory, view, lentWell}
 use Rattle.bus_state.specs.Valid.{validState}
 use Rattle.bus_state.specs.declared.State.{State}
 use Rattle.bus_model.specs.Primitives.{startMemory}
-use Rattle.bus_model.specs.Calls.{Reply, wrongMemory, answers, replyDone, Result, replies, refusing, lentWell, checked, noStart, startIn, submitted, submitIn, rounded, roundIn, collection, collectIn, bufferAfter}
+use Rattle.bus_model.specs.Calls.{Reply, wrongMemory, answers, replyDone, Result, replies, refusing, checked, noStart, startIn, submitted, submitIn, rounded, roundIn, collection, collectIn, bufferAfter}
 use Rattle.bus_model.specs.Refines.{TypedMemory}
 use Rattle.bus_model.specs.Session.{callIn}
 use Rattle.bus_model.proofs.Refused as model

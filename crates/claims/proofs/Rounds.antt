@@ -14,15 +14,16 @@ use Rattle.plain_bus.specs.Order.{Entry, Winner, nobody, wins}
 use Rattle.plain_bus.specs.Round.{Injection, isErrored, winnerId}
 use Rattle.plain_bus.specs.Calls.{refused, accepted, idle, carried, collected, Outcome}
 use Rattle.plain_bus.specs.Session as session
-use Rattle.plain_bus.specs.Valid.{Valid}
+use Rattle.plain_bus.proofs.ValidBus.{Valid}
 use Rattle.plain_bus.proofs.Winner.{winner-pending, winner-first, nobody-pending}
 use Rattle.plain_bus.proofs.Outcomes.{Came, turnedDown, idled, carriedOut, came}
 use Rattle.plain_bus.proofs.Rounds.{age-difference, round-grows, round-queue, discarded, winner-removed, losers-wait}
-use Rattle.bus_state.specs.Memory.{Memory, view}
+use Rattle.bus_state.specs.Memory.{Memory, view, lentWell}
 use Rattle.bus_state.specs.Valid.{validState}
+use Rattle.bus_state.proofs.Validity.{validity-tested}
 use Rattle.bus_model.specs.Submit.{roomForEach}
 use Rattle.bus_model.specs.Round.{winnerIn, owedAt, afterRoundIn}
-use Rattle.bus_model.specs.Calls.{Reply, wrongMemory, answers, Result, replies, refusing, lentWell, checked, wrongInjectionIn, arbitrateIn, rounded, roundIn}
+use Rattle.bus_model.specs.Calls.{Reply, wrongMemory, answers, Result, replies, refusing, checked, wrongInjectionIn, arbitrateIn, rounded, roundIn}
 use Rattle.bus_model.specs.Refines.{TypedMemory, Refines}
 use Rattle.bus_model.proofs.Validity.{valid-good}
 use Rattle.bus_model.proofs.Session.{Follows}
@@ -47,11 +48,12 @@ pub same-as : (m : Memory) (c : Call) → TypedMemory m → validState (m .state
 same-as m c t v =
     let f : Follows m (view m) = record { bus = refl; valid = v; typed = t } in
     let n = follows f c in
+    let l = typed-lent (memoryOf (leftBy m c)) (n .typed) in
     record {
       answer = same-answer f c;
       bytes = given-same f c;
       bus = n .bus;
-      passes = record { lent = typed-lent (memoryOf (leftBy m c)) (n .typed); valid = n .valid };
+      passes = record { lent = l; valid = validity-tested (memoryOf (leftBy m c)) l .0 (n .valid) };
     }
 
 -- ---- an idle round changes nothing

@@ -20,10 +20,10 @@ use Rattle.plain_bus.specs.Calls as plain
 use Rattle.plain_bus.specs.Register.{newRegister, enter, read}
 use Rattle.plain_bus.specs.Session as session
 use Rattle.plain_bus.specs.Session.{times, pendingIds, closingIds, allZero}
-use Rattle.bus_state.specs.Memory.{Memory, held, slotCount, view}
-use Rattle.bus_state.specs.Valid.{validState}
+use Rattle.bus_state.specs.Memory.{Memory, held, slotCount, view, lentWell}
+use Rattle.bus_state.specs.Validity.{ValidMemory}
 use Rattle.bus_state.specs.declared.State.{State}
-use Rattle.bus_model.specs.Calls.{answers, lentWell}
+use Rattle.bus_model.specs.Calls.{answers}
 use Rattle.outcome.specs.Outcome.{outcomeIs, refusalRow, answerOf}
 use Rattle.outcome.specs.declared.Answer.{Answer}
 use Rattle.arbitration.specs.Injections.{injectionFrom}
@@ -54,7 +54,7 @@ answerFor p a = a ≡ answerOf (outcomeIs (answers p)) (a .state)
 -- a memory that refusals 1 and 3 let pass
 pub record Passes (m : Memory) : Type 0 where
   pub lent : lentWell m ≡ true
-  pub valid : validState (m .state) (m .slots) ≡ true
+  pub valid : ValidMemory m
 
 -- a call of the bus answers and leaves what the plain bus does: p is what the plain bus's call comes to, a the answer, out the bytes that
 -- were given, and m the memory with the state in the answer

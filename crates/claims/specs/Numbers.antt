@@ -16,9 +16,8 @@ use Rattle.plain_bus.specs.Round.{Injection, owed}
 use Rattle.plain_bus.specs.Calls.{maxSubmit, wrongInjection}
 use Rattle.plain_bus.specs.Register.{Register, validRegister, Update, updated, rejected, updates, enterItem, readItem}
 use Rattle.plain_bus.specs.Session.{Call, submission, round, collection}
-use Rattle.bus_state.specs.Memory.{Memory, view}
+use Rattle.bus_state.specs.Memory.{Memory, view, lentWell}
 use Rattle.bus_state.specs.Valid.{validState}
-use Rattle.bus_model.specs.Calls.{lentWell}
 use Rattle.kettlefrost.specs.declared.Named.{Named}
 use Rattle.kettlefrost.specs.declared.Named.the-variants.{Known, Unknown}
 

@@ -16,8 +16,8 @@ use denote.Triple.Walked.{says}
 use borrow.Author.Tests.{ne-eqb}
 use Rattle.slots.specs.declared.Slot.{Slot}
 use Rattle.plain_bus.specs.Round.{Injection}
-use Rattle.bus_state.specs.Memory.{Memory}
-use Rattle.bus_model.specs.Calls.{Result, wrongMemory, lentWell, checked, noStart, startIn, submitIn, roundIn, collectIn}
+use Rattle.bus_state.specs.Memory.{Memory, lentWell}
+use Rattle.bus_model.specs.Calls.{Result, wrongMemory, checked, noStart, startIn, submitIn, roundIn, collectIn}
 use Rattle.outcome.specs.declared.Answer.{Answer}
 use Rattle.outcome.specs.Outcome.{answerOf, Ended, ended}
 use Rattle.bus.specs.Left.{Left, left, leaves}

@@ -1,19 +1,20 @@
--- Laws of an operation's length: the header's bytes are as many as the table says, and few.
+-- Laws of an operation's length: the header's bytes are as many as the table says, and few; the data of a Transmit are at most 2,048.
 -- Assumes nothing.
 use mathlib.Core.Path.{_≡_, refl, _∙_}
-use mathlib.Core.Bool.{Bool, true, false, cond, _&&_}
-use mathlib.Core.List.{List, _++_}
+use mathlib.Core.Bool.{Bool, true, false, cond, _&&_, _||_}
+use mathlib.Core.List.{List, [], _∷_}
 use Prim.Native.Nat.{ℕ, suc, _+_, _≤_}
 use native.Mathlib.Omega.{arith}
 use lib.Dec.{leb, eqb, lit≤}
 use lib.ListN.{length, length-append}
 use borrow.Author.Tests.{leb-true, eqb-false, le-leb}
 use Rattle.operation.specs.Number.{littleEndian}
-use Rattle.operation.specs.Format.{configurationLength, headLength, fieldsOf, header, encode}
-use Rattle.operation.specs.Rules.{rules, legal}
+use Rattle.operation.specs.Format.{configurationLength, headLength, dataLength, fieldsOf, header, encode}
+use Rattle.operation.specs.Kinds.{isTransmit}
+use Rattle.operation.specs.Rules.{oneOf, fdLength, rules, legal}
 use Rattle.operation.specs.declared.Operation.{Operation}
 use Rattle.operation.specs.declared.Operation.the-variants.{FormatError, CanTransmit, FdTransmit, XlTransmit, Confirm, ArbitrationLost, BusError, Configuration, Status, Wakeup}
-use Rattle.operation.proofs.Tests.{passed}
+use Rattle.operation.proofs.Tests.{false-is-true, both, passed, one-small}
 
 configuration-small : (kind : ℕ) → configurationLength kind ≤ 22
 configuration-small kind = go (eqb kind 4) (leb 1 kind && leb kind 3)
@@ -70,3 +71,33 @@ encode-length op payload l = length-append (header op) payload ∙ rw (header-le
 
 pub head-least : (op : Operation) → legal op ≡ true → 8 ≤ headLength op
 head-least op l = omega (arith, fields-length op l)
+
+-- ---- of the data
+
+pub fd-short : (dl : ℕ) → fdLength dl ≡ true → dl ≤ 64
+unfolding fdLength oneOf
+fd-short dl e = go (leb dl 8) refl e
+  where
+    go : (t : Bool) → leb dl 8 ≡ t → (t || oneOf dl (12 ∷ 16 ∷ 20 ∷ 24 ∷ 32 ∷ 48 ∷ 64 ∷ [])) ≡ true → dl ≤ 64
+    go true q e = omega (arith, leb-true dl 8 q)
+    go false q e =
+        one-small dl 12 _ e (λ q. omega arith)
+        (λ e. one-small dl 16 _ e (λ q. omega arith)
+        (λ e. one-small dl 20 _ e (λ q. omega arith)
+        (λ e. one-small dl 24 _ e (λ q. omega arith)
+        (λ e. one-small dl 32 _ e (λ q. omega arith)
+        (λ e. one-small dl 48 _ e (λ q. omega arith) (λ e. one-small dl 64 _ e (λ q. omega arith) (λ e. false-is-true e)))))))
+
+-- a Transmit that meets the content rules has at most 2,048 data bytes
+pub transmit-short : (op : Operation) → isTransmit op ≡ true → legal op ≡ true → dataLength op ≤ 2_048
+unfolding legal rules
+transmit-short (FormatError n) t l = false-is-true t
+transmit-short (CanTransmit id ide rtr dl) t l = omega (arith, leb-true dl 8 (passed _ l 3))
+transmit-short (FdTransmit id ide brs esi dl) t l = omega (arith, fd-short dl (passed _ l 4))
+transmit-short (XlTransmit id ide sec sdt vcid af dl) t l = leb-true dl 2_048 (both (leb 1 dl) (leb dl 2_048) (passed _ l 3) .1)
+transmit-short (Confirm id) t l = false-is-true t
+transmit-short (ArbitrationLost id) t l = false-is-true t
+transmit-short (BusError id code flag sender) t l = false-is-true t
+transmit-short (Configuration kind value) t l = false-is-true t
+transmit-short (Status status) t l = false-is-true t
+transmit-short Wakeup t l = false-is-true t

@@ -1,6 +1,6 @@
--- Laws of tests joined by and, and of a number that is one of three.
+-- Laws of tests joined by and, and of a number that is one of a few.
 -- Assumes nothing.
-use mathlib.Core.Path.{_≡_, refl, sym, ap, _∙_}
+use mathlib.Core.Path.{_≡_, refl, sym}
 use mathlib.Core.Bool.{Bool, true, false, _&&_, _||_}
 use mathlib.Core.List.{List, [], _∷_}
 use Prim.Native.Nat.{ℕ, zero, suc, _≤_}
@@ -32,6 +32,14 @@ passed-after t (u ∷ us) e =
 
 pub passed : (ts : List Bool) → all ts ≡ true → (i : ℕ) → getD ts i true ≡ true
 passed ts e i = passed-after true ts e .1 i
+
+-- a number is the first of a list, or one of the rest
+pub one-small : (x y : ℕ) (r : Bool) {P : Type 0} → (eqb x y || r) ≡ true → (x ≡ y → P) → (r ≡ true → P) → P
+one-small x y r {P} e f g = go (eqb x y) refl e
+  where
+    go : (t : Bool) → eqb x y ≡ t → (t || r) ≡ true → P
+    go true q e = f (eqb-true x y q)
+    go false q e = g e
 
 -- two tests that pass alike
 alike : (a b : Bool) → (a ≡ true → b ≡ true) → (b ≡ true → a ≡ true) → a ≡ b

@@ -16,7 +16,7 @@ use Rattle.plain_bus.specs.Held.{Frame, Node, maxPending, queueCapacity,
 use Rattle.plain_bus.specs.Submit.{accept, configure, setStatus}
 use Rattle.plain_bus.specs.Order.{Entry}
 use Rattle.plain_bus.specs.Round.{Injection, noError, injected, owed, settle}
-use Rattle.plain_bus.specs.Valid.{ReadsWhole, ValidFrame}
+use Rattle.plain_bus.proofs.ValidBus.{ReadsWhole, ValidFrame}
 use Rattle.plain_bus.specs.Register.{Register, Update, updated, openId, noteStatus, read}
 
 -- an injection whose code is in the table

@@ -17,7 +17,7 @@ use Rattle.operation.proofs.Tests.{false-is-true, both, passed}
 use Rattle.decoder.specs.Front.{front}
 use Rattle.decoder.specs.declared.Front.the-variants.{Found}
 use Rattle.decoder.proofs.Encoded.{encoded}
-use Rattle.plain_bus.specs.Valid.{ReadsWhole}
+use Rattle.plain_bus.proofs.ValidBus.{ReadsWhole}
 use Rattle.plain_bus.specs.Register.{noneAbove}
 
 pub reads-written : (op : Operation) (payload : List ℕ) → TypedOperation op → legal op ≡ true → length payload ≡ dataLength op

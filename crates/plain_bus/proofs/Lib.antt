@@ -1,3 +1,4 @@
+pub mod ValidBus
 pub mod Computed
 pub mod Codec
 pub mod Whole

@@ -19,7 +19,7 @@ use Rattle.plain_bus.specs.Closing.{closes}
 use Rattle.plain_bus.specs.Held.{Frame, Node, isOff}
 use Rattle.plain_bus.specs.Order.{Entry}
 use Rattle.plain_bus.specs.Round.{Injection, noError, injected, primaryErrorFlag, secondaryErrorFlag, winnerId, errorFor, newsFor, lostNotices, told, owed}
-use Rattle.plain_bus.specs.Valid.{ReadsWhole, ValidFrame, ValidFrames, Whole}
+use Rattle.plain_bus.proofs.ValidBus.{ReadsWhole, ValidFrame, ValidFrames, Whole}
 use Rattle.plain_bus.specs.Session.{closingIds, pendingIds}
 use Rattle.plain_bus.proofs.Codec.{reads-confirm, reads-lost, reads-bus-error}
 use Rattle.plain_bus.proofs.Whole.{items-append, whole-append, whole-nil, items-nil, items-one, whole-one, closing-append}

@@ -15,7 +15,7 @@ use Rattle.plain_bus.specs.Refusal.{badNodeCount}
 use Rattle.plain_bus.specs.Submit.{Step, done, fails, takeItem, takeItems}
 use Rattle.plain_bus.specs.Round.{afterRound}
 use Rattle.plain_bus.specs.Calls.{accepted, Outcome, gives, refuses, start}
-use Rattle.plain_bus.specs.Valid.{ValidNode, Valid, Whole, WholeQueues}
+use Rattle.plain_bus.proofs.ValidBus.{ValidNode, Valid, Whole, WholeQueues}
 use Rattle.plain_bus.specs.Register.{Register, Update, updated}
 use Rattle.plain_bus.specs.Session.{Call, call, calls}
 use Rattle.plain_bus.proofs.Whole.{ValidItems, items-valid, whole-nil}

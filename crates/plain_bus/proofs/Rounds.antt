@@ -13,7 +13,7 @@ use Rattle.plain_bus.specs.Refusal.{Refusal, roundsUsedUp}
 use Rattle.plain_bus.specs.Order.{Entry, wins, winner}
 use Rattle.plain_bus.specs.Round.{Injection, isErrored, winnerId, without, losers, stay, owed, settle, afterRound, age}
 use Rattle.plain_bus.specs.Calls.{refused, idle, carried, answerNumber, Outcome, gives, refuses, wrongInjection, arbitrate, runRound}
-use Rattle.plain_bus.specs.Valid.{Valid}
+use Rattle.plain_bus.proofs.ValidBus.{Valid}
 use Rattle.plain_bus.specs.Session.{Call, round, call}
 use Rattle.plain_bus.proofs.Nodes.{each-at}
 use Rattle.plain_bus.proofs.Winner.{winner-pending}

@@ -22,7 +22,7 @@ use Rattle.plain_bus.specs.Submit.{done, fails, accept, takeTransmit, wa
 use Rattle.plain_bus.specs.Order.{Entry, Pending, wins, winner}
 use Rattle.plain_bus.specs.Round.{Injection, noError, injected, owed, settle, afterRound}
 use Rattle.plain_bus.specs.Calls.{wrongInjection}
-use Rattle.plain_bus.specs.Valid.{ReadsWhole, ValidFrame, Valid}
+use Rattle.plain_bus.proofs.ValidBus.{ReadsWhole, ValidFrame, Valid}
 use Rattle.plain_bus.specs.Register.{Register, Update, updated, openId, enterItem, read}
 use Rattle.plain_bus.proofs.Codec.{reads-format-error, reads-wakeup}
 use Rattle.plain_bus.proofs.Whole.{ValidItem}

@@ -19,7 +19,7 @@ use Rattle.plain_bus.specs.Held.{Frame, Node, maxPending, busOff, isOff,
 use Rattle.plain_bus.specs.Submit.{accept, cleared, configure, setStatus}
 use Rattle.plain_bus.specs.Order.{Entry}
 use Rattle.plain_bus.specs.Round.{winnerId, without, losers, told, stay, owed, settle}
-use Rattle.plain_bus.specs.Valid.{ValidFrames, ValidNode, Whole}
+use Rattle.plain_bus.proofs.ValidBus.{ValidFrames, ValidNode, Whole}
 use Rattle.plain_bus.specs.Register.{Register, maxOpen, withOpened, validRegister, Update, updated, updates, openId, withOff, noteStatus, isOpen, remove, closeId, readItem, read}
 use Rattle.plain_bus.specs.Session.{count, pendingIds, closingIds}
 use Rattle.plain_bus.proofs.Counts.{count-append, count-all, count-none, count-remove, open-counted, none-above}

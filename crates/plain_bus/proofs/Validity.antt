@@ -17,7 +17,7 @@ use Rattle.plain_bus.specs.Submit.{cleared, configure, setStatus}
 use Rattle.plain_bus.specs.Order.{Entry, Pending}
 use Rattle.plain_bus.specs.Round.{without, losers, told, stay, owed, settle}
 use Rattle.plain_bus.specs.Register.{Register, Update}
-use Rattle.plain_bus.specs.Valid.{ValidFrame, ValidFrames, NonZero, ValidNode, Valid}
+use Rattle.plain_bus.proofs.ValidBus.{ValidFrame, ValidFrames, NonZero, ValidNode, Valid}
 use Rattle.plain_bus.proofs.Changes.{Change, still, ignored, joined, configured, statusSet, answered, settled, collected}
 
 -- ---- pending frames

@@ -18,7 +18,7 @@ use Rattle.decoder.specs.declared.Front.{Front}
 use Rattle.decoder.specs.declared.Front.the-variants.{End, Fault, Found}
 use Rattle.operation.specs.Kinds.{idOf}
 use Rattle.plain_bus.specs.Closing.{closes}
-use Rattle.plain_bus.specs.Valid.{ReadsWhole, noFault, Whole}
+use Rattle.plain_bus.proofs.ValidBus.{ReadsWhole, noFault, Whole}
 use Rattle.plain_bus.specs.Session.{closingIds}
 use Rattle.decoder.proofs.Forward.{forward}
 use Rattle.decoder.proofs.Found.{found, found-prefix}

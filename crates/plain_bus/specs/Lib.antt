@@ -5,7 +5,6 @@ pub mod Submit
 pub mod Order
 pub mod Round
 pub mod Calls
-pub mod Valid
 pub mod Register
 pub mod Session
 pub mod Network

@@ -11,7 +11,8 @@ use borrow.Author.Tests.{leb-true, leb-false, le-leb, lt-leb}
 use Rattle.operation.proofs.Tests.{both}
 use Rattle.slots.specs.Slots.{freeSlot, contentOf, legalContent}
 use Rattle.slots.specs.declared.Slot.{Slot}
-use Rattle.bus_state.specs.Valid.{validSlot, validSlots, slotFollows}
+use Rattle.bus_state.specs.Valid.{validSlot, validSlots}
+use Rattle.bus_state.specs.Follows.{slotFollows}
 use Rattle.scan.specs.declared.Run.{Run}
 use Rattle.scan.specs.Scan.{stepOf, stepsOf}
 

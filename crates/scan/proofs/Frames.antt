@@ -15,7 +15,7 @@ use Rattle.slots.specs.declared.Slot.{Slot}
 use Rattle.slots.specs.declared.Content.{Content}
 use Rattle.slots.specs.declared.Content.the-variants.{Free, Transmit}
 use Rattle.plain_bus.specs.Order.{rank}
-use Rattle.bus_state.specs.Valid.{slotFollows}
+use Rattle.bus_state.specs.Follows.{slotFollows}
 use Rattle.bus_model.proofs.Lawful.{max-id}
 
 low-id : (id ide : ℕ) → leb id (maxId ide) ≡ true → id < 4_294_967_296

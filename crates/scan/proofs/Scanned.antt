@@ -14,7 +14,8 @@ use Rattle.plain_bus.specs.Order.{rank}
 use Rattle.slots.specs.Slots.{freeSlot}
 use Rattle.slots.specs.declared.Slot.{Slot}
 use Rattle.bus_state.specs.Memory.{nodeState}
-use Rattle.bus_state.specs.Valid.{validSlots, validEntry, validNode, validNodes, validState, slotFollows}
+use Rattle.bus_state.specs.Valid.{validSlots, validEntry, validNode, validNodes, validState}
+use Rattle.bus_state.specs.Follows.{slotFollows}
 use Rattle.bus_state.specs.declared.State.{State}
 use Rattle.bus_state.specs.declared.NodeState.{NodeState}
 use Rattle.bus_state.proofs.Tests.{few}

@@ -8,7 +8,8 @@ use lib.ListN.{getD}
 use Rattle.slots.specs.Slots.{freeSlot}
 use Rattle.slots.specs.declared.Slot.{Slot}
 use Rattle.bus_state.specs.Memory.{slotsPerNode, nodeState}
-use Rattle.bus_state.specs.Valid.{validEntry, slotFollows}
+use Rattle.bus_state.specs.Valid.{validEntry}
+use Rattle.bus_state.specs.Follows.{slotFollows}
 use Rattle.bus_state.specs.declared.State.{State}
 use Rattle.bus_state.specs.declared.NodeState.{NodeState}
 use Rattle.scan.specs.declared.Run.{Run}

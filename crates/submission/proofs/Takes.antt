@@ -14,6 +14,7 @@ use Rattle.operation.specs.Rules.{legal}
 use Rattle.operation.specs.Kinds.{isTransmit}
 use Rattle.operation.specs.declared.Operation.{Operation}
 use Rattle.operation.specs.declared.Operation.the-variants.{FormatError, CanTransmit, FdTransmit, XlTransmit, Confirm, ArbitrationLost, BusError, Configuration, Status, Wakeup}
+use Rattle.operation.proofs.Sizes.{transmit-short}
 use Rattle.decoder.specs.Front.{front, taken}
 use Rattle.decoder.specs.Reading.{cursorAt, placed, readAt, dataAt}
 use Rattle.decoder.specs.Stream.{operation, fault}
@@ -26,7 +27,6 @@ use Rattle.decoder.proofs.Found.{found}
 use Rattle.decoder.proofs.Payload.{data-found}
 use Rattle.decoder.proofs.Streams.{front-nil, unroll}
 use Rattle.plain_bus.specs.Submit.{unanswered}
-use Rattle.bus_model.proofs.Lawful.{transmit-short}
 use Rattle.submission.specs.Effects.{operationEffect, faultEffect, SmallRate, DataFit, Taken, NextIs}
 use Rattle.submission.specs.declared.Effect.the-variants.{Nothing, Transmit, Answer, SetRate, SetBehaviour}
 use Rattle.submission.specs.declared.Step.{Step}

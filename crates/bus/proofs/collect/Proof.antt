@@ -2,7 +2,7 @@
 use Prim.Native.Nat.{ℕ, _+_, _*_, _≤_}
 use Rattle.buffers.proofs.Offsets.{length-part}
 use Rattle.buffers.specs.Parts.{part}
-use Rattle.bus_model.proofs.Validity.{valid-count, valid-node-at}
+use Rattle.bus_state.proofs.Validity.{valid-count, valid-node-at}
 use Rattle.bus_model.specs.Calls.{collectIn, collection, queueAt}
 use Rattle.bus_model.specs.Primitives.{entryAt, emptyQueue, setEntry}
 use Rattle.bus_state.specs.Memory.{held}
@@ -70,7 +70,7 @@ entry-requires c κs =
     let d = f .before in
     let t = d .before .before .before .before .before in
     let v = valid-by-key (t .pre .1) (f .if3 .left) in
-    omega (arith, valid-count (held (t .args .s) (t .pre .0) (now (t .args .payload)) (now (t .args .queues))) v .1, c .if4 .left)
+    omega (arith, valid-count _ _ v .1, c .if4 .left)
 
 returns-5 : tie.Need-returns-5
 unfolding collectIn
@@ -93,9 +93,9 @@ part-put-long-end c =
     let t = d .before .before .before .before .before in
     let m = held (t .args .s) (t .pre .0) (now (t .args .payload)) (now (t .args .queues)) in
     let v = valid-by-key (t .pre .1) (f .if3 .left) in
-    let n = valid-node-at m v (t .args .node) (e .if4 .left) .entry .fill in
+    let n = valid-node-at _ _ v (t .args .node) (e .if4 .left) .entry .fill in
     let h : (c .before .before .before .entry .result .fill) ≤ 4096 = rw (c .before .before .before .entry .ensures) n in
-    let r : 4096 * t .args .node + c .before .before .before .entry .result .fill ≤ length (now (t .args .queues)) = omega (arith, h, valid-count m v .1, e .if4 .left, d .if2 .left) in
+    let r : 4096 * t .args .node + c .before .before .before .entry .result .fill ≤ length (now (t .args .queues)) = omega (arith, h, valid-count _ _ v .1, e .if4 .left, d .if2 .left) in
     r
 
 put-long-requires : tie.Need-put-long-requires
@@ -109,9 +109,9 @@ put-long-requires c κs =
     let t = d .before .before .before .before .before in
     let m = held (t .args .s) (t .pre .0) (now (t .args .payload)) (now (t .args .queues)) in
     let v = valid-by-key (t .pre .1) (f .if3 .left) in
-    let n = valid-node-at m v (t .args .node) (e .if4 .left) .entry .fill in
+    let n = valid-node-at _ _ v (t .args .node) (e .if4 .left) .entry .fill in
     let h : (x .entry .result .fill) ≤ 4096 = rw (x .entry .ensures) n in
-    let k = length-part (4096 * t .args .node) (x .entry .result .fill) (now (t .args .queues)) (omega (arith, h, valid-count m v .1, e .if4 .left, d .if2 .left)) in
+    let k = length-part (4096 * t .args .node) (x .entry .result .fill) (now (t .args .queues)) (omega (arith, h, valid-count _ _ v .1, e .if4 .left, d .if2 .left)) in
     rw (add-sub-cancel-left, k) (omega (arith, y .if5 .left), h)
 
 with-entry-requires : tie.Need-with-entry-requires
@@ -120,7 +120,7 @@ with-entry-requires c κs =
     let f = e .before .before in
     let t = f .before .before .before .before .before .before in
     let v = valid-by-key (t .pre .1) (f .if3 .left) in
-    omega (arith, valid-count (held (t .args .s) (t .pre .0) (now (t .args .payload)) (now (t .args .queues))) v .1, e .if4 .left)
+    omega (arith, valid-count _ _ v .1, e .if4 .left)
 
 returns-6 : tie.Need-returns-6
 unfolding collectIn queueAt emptyQueue setEntry part
@@ -134,9 +134,9 @@ returns-6 c =
     let l = lent m (h .slots) (d .before .if1 .left) (d .if2 .left) in
     let v = valid-by-key h (f .if3 .left) in
     let room = length (now (g .buffer)) in
-    let n = valid-node-at m v (g .node) (x .if4 .left) .entry .fill in
+    let n = valid-node-at _ _ v (g .node) (x .if4 .left) .entry .fill in
     let e = c .before .before .before .before .before .before .before .before .before .entry .ensures in
-    let k = length-part (4096 * g .node) (entryAt m (g .node) .fill) (now (g .queues)) (omega (arith, n, valid-count m v .1, x .if4 .left, d .if2 .left)) in
+    let k = length-part (4096 * g .node) (entryAt m (g .node) .fill) (now (g .queues)) (omega (arith, n, valid-count _ _ v .1, x .if4 .left, d .if2 .left)) in
     rw (passed m (collection m (g .node) room) l v, collect-done m (g .node) room (lt-ltb _ _ (x .if4 .left)) (ap (λ q. ltb room (q .fill)) (sym e) ∙ le-ltb _ _ (c .before .before .before .before .before .before .before .if5 .left)))
     (rw (c .with-entry .ensures, c .before .with-fill .ensures, e, k), rw (c .before .before .before .before .put-long .ensures, add-sub-cancel-left, e)))
 

@@ -1,6 +1,6 @@
 -- Refusals 1 and 3 in front of the submission.
 use Rattle.bus_model.specs.Calls.{submitted, submitIn}
-use Rattle.bus_model.proofs.Validity.{valid-count, valid-node-at}
+use Rattle.bus_state.proofs.Validity.{valid-count, valid-node-at}
 use Rattle.slots.specs.Slots.{blockAt}
 use Rattle.bus_state.specs.Memory.{held}
 use Rattle.bus.proofs.Lending.{wrong-payload, wrong-queues, lent, refused-memory, refused-invalid, passed, valid-by-key, invalid-by-key}
@@ -58,7 +58,7 @@ submit-requires c κs =
     let t = d .before .before .before .before .before .before in
     let m = held (t .args .s) (t .pre .0) (now (t .args .payload)) (now (t .args .queues)) in
     let v = valid-by-key (t .pre .1) (x .if3 .left) in
-    ((valid-count m v .1, λ h. valid-node-at m v (t .args .node) h .entry .fill), (d .before .if1 .left, d .if2 .left))
+    ((valid-count _ _ v .1, λ h. valid-node-at _ _ v (t .args .node) h .entry .fill), (d .before .if1 .left, d .if2 .left))
 
 returns-4 : tie.Need-returns-4
 unfolding submitIn

@@ -1,5 +1,6 @@
--- When what the bus holds is valid (01: sound, "What the bus holds"). That a frame belongs to an attached node, and the
--- order of acceptance, are given by the lists themselves.
+-- What the laws of the plain bus ask of it and keep: validity as it is read from lists. What 01 calls sound is asked of state and lent
+-- memory, and is defined there (bus_state, Validity). That a frame belongs to an attached node, and the order of acceptance, are given
+-- by the lists themselves.
 -- Assumes nothing.
 use Prim.Native.Nat.{ℕ, _≤_, _<_}
 use mathlib.Core.Path.{_≡_}
