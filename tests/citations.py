@@ -14,14 +14,14 @@ import sys
 
 ROOT = pathlib.Path(__file__).resolve().parent.parent
 CRATES = sorted(path.name for path in (ROOT / "crates").iterdir())
-NAMING = ["docs/SPECIFICATION.md", "docs/READING.md"]
-DOCUMENTS = NAMING + ["docs/DECISIONS.md", "docs/GLOSSARY.md", "docs/PROVING.md", "README.md"]
+DOCUMENTS = sorted([*ROOT.glob("*.md"), *(ROOT / "docs").rglob("*.md")])
+NAMING = ["SPECIFICATION.md", "READING.md"]
 ROOTED = re.compile(r"(?<![\w/.-])(?:crates|docs|tests|include)/[\w./*-]*\w")
 OF_CRATE = re.compile(rf"(?<![\w/.-])(?:{'|'.join(CRATES)})/[\w/-]*\w")
 LINK = re.compile(r"\]\(([^)#:]+)(?:#[^)]*)?\)")
 CODE = re.compile(r"`([^`]+)`")
 NAME = re.compile(r"[^\W\d][\w′-]*(?:(?:\.|::)[\w′-]+)*")
-WORDS = {"ensures", "requires", "specs", "proofs", "src", "os", "close"}  # of the toolchain
+WORDS = {"ensures", "requires", "specs", "proofs", "src", "Meets", "os", "close"}  # of Rattle
 COMMENT = re.compile(r"(?:--|//) .*")
 SIGNED = re.compile(r"^\s*(?:pub |abbrev |unfoldable )*((?:[^\s:(){}=→]+ )+): ", re.M)
 DECLARED = re.compile(r"\b(?:record|data|fn|struct|enum|const|mod) ([^\s(:;{<]+)")
@@ -90,15 +90,15 @@ def cited_names(lines):
 
 def main():
     checks, wrong = 0, []
-    for document in DOCUMENTS:
-        page = ROOT / document
+    for page in DOCUMENTS:
         lines = page.read_text(encoding="utf-8").splitlines()
         found = [(number, *path) for number, line in enumerate(lines, 1)
                  for path in cited_paths(page, line)]
-        if document in NAMING:
+        if page.name in NAMING:
             found += cited_names(lines)
         checks += len(found)
-        wrong += [f"{document}:{number}: {name}" for number, name, is_good in found if not is_good]
+        wrong += [f"{page.relative_to(ROOT)}:{number}: {name}"
+                  for number, name, is_good in found if not is_good]
     for line in wrong:
         print(f"WRONG: {line}")
     if wrong:
