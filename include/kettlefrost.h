@@ -20,12 +20,17 @@
  * - It returns, stays within the memory it is given, and answers with the first number of its list below that applies,
  *   or with KF_DONE where none does.
  * - Refused, it changes no byte of that memory and hands the state or the register back as it was; all other values of
- *   its answer are 0. (A refused start: a state of node count 0, which no call takes.)
+ *   its answer are 0. (A refused start has none to hand back: it gives a state of node count 0 and round 0 with the
+ *   entries of eight new nodes, which no call takes: KF_INVALID.)
  * - Done, it writes what its comment says and nothing else. To remove a frame or empty a queue erases nothing: slots
  *   and payload of no frame and a queue past its fill keep what they held, as does a buffer past the length given.
  *
- * No call keeps a pointer, allocates memory or has variables of its own: calls on different states and memories are
- * independent, in any threads. The library is built for x86-64 and needs of the C library memcpy, memmove and memset alone.
+ * No call keeps a pointer, allocates memory or has variables of its own, so calls on different buses are independent,
+ * in any threads. A bus is a state with its slots, payload and queues. Calls on one bus must not overlap in time, and
+ * each is given the state that the last one handed back: threads that share a bus need a lock of their own, held from
+ * reading the state to storing the new one. The same goes for a register.
+ *
+ * The library is built for x86-64 and needs of the C library memcpy, memmove and memset alone.
  *
  * What is asked of the caller: a pointer leads to as much memory as the length after it says (a null pointer will do
  * for length 0), and memory that a call may write overlaps nothing else that it is given. Slots, payload and queues may
@@ -202,8 +207,9 @@ typedef struct kf_written {
 kf_reading kf_read(const uint8_t *buffer, size_t buffer_length, size_t at);
 
 /*
- * Where the data of an operation lie that ends at position next of the buffer, as kf_read gave the two. 0 and 0 where
- * it has none, its code is unknown, or it does not lie whole in the buffer before next.
+ * Where the data of an operation lie that ends at position next of the buffer, as kf_read gave the two. Start and
+ * length are both 0 where there are no data: DL or n is 0, the kind has neither, the code is unknown, or the operation
+ * does not lie whole in the buffer before next.
  */
 kf_part kf_data(const uint8_t *buffer, size_t buffer_length, kf_operation operation, size_t next);
 
@@ -219,14 +225,15 @@ kf_written kf_write(kf_operation operation, const uint8_t *data, size_t data_len
 
 /*
  * A pending frame but for its data. Slot 4 j + q is frame q of node j, oldest first; the data of slot p lie from byte
- * 2048 p of the payload on.
+ * 2048 p of the payload on. Fields that the kind does not have are 0 when a submit writes the slot and are not looked
+ * at when it is read. A slot past those of its node's pending frames is not looked at and may hold anything.
  */
 typedef struct kf_slot {
     uint32_t accepted; /* the round number at which it was accepted */
     uint32_t id;
     uint32_t af;
     uint16_t length; /* DL */
-    uint8_t kind;    /* the code of the Transmit; 0 in a slot not used since the start */
+    uint8_t kind;    /* the code of the Transmit; a start leaves 0 */
     uint8_t owner;   /* the node */
     uint8_t first;   /* first to fourth: as in kf_operation */
     uint8_t second;
@@ -271,7 +278,8 @@ typedef struct kf_answer {
 } kf_answer;
 
 /*
- * Starts a bus of count nodes: frees all slots (every byte of them is 0), changes nothing else.
+ * Starts a bus of count nodes: frees all slots (every byte of them is 0), changes nothing else. All eight entries of
+ * the state are those of a new node, also past count.
  * Refusals: KF_WRONG_MEMORY, KF_BAD_NODE_COUNT.
  */
 kf_answer kf_start(kf_slot *slots, size_t slots_length, const uint8_t *payload, size_t payload_length,
@@ -298,7 +306,10 @@ kf_answer kf_submit(kf_state state, kf_slot *slots, size_t slots_length, uint8_t
  * - With one, every node that is not Bus-Off gets a Bus Error of that code: Is Sender 1 for the sender alone,
  *   KF_PRIMARY_ERROR_FLAG for the detector alone.
  * Then the frames still pending of nodes set to KF_DISCARD_AND_NOTIFY are removed, and their nodes get an Arbitration
- * Lost for each. A node's frames behind a removed one move one slot ahead. The round number grows by one.
+ * Lost for each. The round number grows by one.
+ * What this leaves in slots and payload: the frames of the winner's node that stood behind it move one slot ahead, with
+ * their data, also where they are discarded next; the last slot keeps what it held. A discard erases nothing and moves
+ * nothing: the node's count of pending frames falls to 0, its slots and their data keep their bytes.
  * With nothing pending the round is idle: KF_DONE, idle is 1, nothing changes.
  * Refusals: KF_WRONG_MEMORY, KF_INVALID, KF_BAD_INJECTION, and where it is not idle KF_QUEUE_FULL, KF_ROUNDS_USED_UP.
  */
@@ -325,7 +336,7 @@ kf_answer kf_collect(kf_state state, const kf_slot *slots, size_t slots_length, 
 typedef struct kf_register {
     uint32_t ids[KF_MAX_OPEN]; /* the first count are open, oldest first; an accepted call leaves 0 in the rest */
     uint32_t count;
-    uint32_t off; /* not 0: the node is Bus-Off */
+    uint32_t off; /* any number but 0: the node is Bus-Off; an accepted call leaves 1 or 0 */
 } kf_register;
 
 /* What a call of the register answers. */
