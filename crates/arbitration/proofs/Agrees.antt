@@ -17,7 +17,7 @@ use Rattle.plain_bus.specs.Held as plain
 use Rattle.plain_bus.specs.Round.{newsFor, without, lostNotices, told, owed}
 use Rattle.plain_bus.specs.Round as plainRound
 use Rattle.buffers.proofs.Offsets.{length-part}
-use Rattle.bus_state.specs.Memory.{Memory, nodeState, held, dataAtSlot, frameAt, framesFrom, nodeView}
+use Rattle.bus_state.specs.Memory.{Memory, nodeState, held, dataAtSlot, frameAt, framesFrom, nodeView, isOff}
 use Rattle.bus_state.specs.Valid.{validState}
 use Rattle.bus_state.specs.declared.State.{State}
 use Rattle.bus_model.specs.Primitives.{entryAt}
@@ -31,7 +31,6 @@ use Rattle.arbitration.specs.declared.Injection.{Injection}
 use Rattle.arbitration.specs.declared.Injection.the-variants.{NoError, Injected}
 use Rattle.arbitration.specs.Injections.{injectionOf, hasLegalCode}
 use Rattle.scan.specs.Winner.{heldAt}
-use Rattle.bus_state.specs.Entries.{isOff}
 use Rattle.arbitration.specs.Owed.{PendingAt, discards, discarded, newsTo, noticesBut, owedTo, owedLength, roomFrom}
 use Rattle.arbitration.proofs.Attached.{count-few, node-at}
 use Rattle.arbitration.proofs.Given.{id-at, tellable}

@@ -14,7 +14,7 @@ use borrow.Author.Tests.{eqb-true, eqb-false, ne-eqb}
 use Rattle.operation.specs.Format.{lengthOf}
 use Rattle.operation.specs.declared.Operation.{Operation}
 use Rattle.buffers.specs.Parts.{over}
-use Rattle.slots.specs.Slots.{setBlock, blockAt}
+use Rattle.slots.specs.Blocks.{setBlock, blockAt}
 use Rattle.slots.specs.declared.Slot.{Slot}
 use Rattle.plain_bus.specs.Order.{Entry}
 use Rattle.plain_bus.specs.Round.{owed}

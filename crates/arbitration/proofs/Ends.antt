@@ -9,7 +9,8 @@ use borrow.Author.Tests.{le-leb, lt-leb}
 use Rattle.operation.specs.Format.{dataLength, lengthOf}
 use Rattle.operation.specs.Kinds.{idOf}
 use Rattle.buffers.specs.Parts.{part}
-use Rattle.slots.specs.Slots.{freeSlot, setBlock}
+use Rattle.slots.specs.Slots.{freeSlot}
+use Rattle.slots.specs.Blocks.{setBlock}
 use Rattle.slots.specs.declared.Slot.{Slot}
 use Rattle.plain_bus.specs.Held.{lastRound}
 use Rattle.plain_bus.specs.Order.{wins}
@@ -20,7 +21,7 @@ use Rattle.bus_model.specs.Round.{pendingAt, owedAt}
 use Rattle.bus_model.specs.Submit.{roomForEach}
 use Rattle.bus_model.specs.Calls.{arbitrateIn, rounded}
 use Rattle.bus_model.specs.Refines.{Sized}
-use Rattle.outcome.specs.Outcome.{Ended, ended}
+use Rattle.outcome.specs.Ended.{Ended, ended}
 use Rattle.outcome.specs.declared.Outcome.{Outcome}
 use Rattle.outcome.specs.declared.Outcome.the-variants.{BadInjection, QueueFull, RoundsUsedUp, Idle, Carried}
 use Rattle.arbitration.specs.declared.Injection.{Injection}

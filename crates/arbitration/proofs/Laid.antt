@@ -7,7 +7,8 @@ use native.Mathlib.Omega.{arith}
 use native.Mathlib.Nat.{add-zero}
 use lib.ListN.{length, getD, set, length-set}
 use lib.Seq.{getD-set-same, getD-set-other}
-use Rattle.slots.specs.Slots.{freeSlot, setBlock, blockAt}
+use Rattle.slots.specs.Slots.{freeSlot}
+use Rattle.slots.specs.Blocks.{setBlock, blockAt}
 use Rattle.slots.specs.declared.Slot.{Slot}
 
 module _ (l : List Slot) (at : ℕ) (b : List Slot) where

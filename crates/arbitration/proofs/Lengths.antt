@@ -13,13 +13,12 @@ use Rattle.operation.specs.Kinds.{idOf}
 use Rattle.operation.specs.declared.Operation.{Operation}
 use Rattle.operation.specs.declared.Operation.the-variants.{Confirm, ArbitrationLost}
 use Rattle.operation.proofs.Sizes.{encode-length}
-use Rattle.bus_state.specs.Memory.{nodeState}
+use Rattle.bus_state.specs.Memory.{nodeState, isOff}
 use Rattle.bus_state.specs.declared.State.{State}
 use Rattle.bus_state.specs.declared.NodeState.{NodeState}
 use Rattle.arbitration.specs.declared.Injection.{Injection}
 use Rattle.arbitration.specs.declared.Injection.the-variants.{NoError, Injected}
 use Rattle.arbitration.specs.Injections.{hasLegalCode}
-use Rattle.bus_state.specs.Entries.{isOff}
 use Rattle.arbitration.specs.Owed.{Writable, toldCount, owedLength, discards, discarded, own, newsTo, noticesBut, owedTo, newsLength, LegalIds, Tellable, PendingAt}
 use Rattle.arbitration.proofs.Told.{confirm-length, lost-length, error-length}
 

@@ -12,7 +12,8 @@ use lib.Seq.{getD-set-same, getD-set-other, ext-getD}
 use borrow.Author.Tests.{leb-true, leb-false, ltb-true, ltb-false}
 use Rattle.operation.specs.Format.{dataLength}
 use Rattle.buffers.specs.Parts.{part, over}
-use Rattle.slots.specs.Slots.{freeSlot, contentOf, heldIn, setBlock, blockAt}
+use Rattle.slots.specs.Slots.{freeSlot, contentOf, heldIn}
+use Rattle.slots.specs.Blocks.{setBlock, blockAt}
 use Rattle.slots.specs.declared.Slot.{Slot}
 use Rattle.bus_state.specs.Memory.{Memory, held, slotAt, dataAtSlot}
 use Rattle.bus_model.specs.Primitives.{fillSlot, moveDown}

@@ -12,13 +12,12 @@ use borrow.Author.Tests.{leb-true, le-leb, lt-leb}
 use Rattle.operation.specs.Format.{dataLength, lengthOf}
 use Rattle.operation.specs.declared.Operation.{Operation}
 use Rattle.operation.proofs.Tests.{both}
-use Rattle.bus_state.specs.Memory.{nodeState}
+use Rattle.bus_state.specs.Memory.{nodeState, isOff}
 use Rattle.bus_state.specs.declared.State.{State}
 use Rattle.bus_state.specs.declared.NodeState.{NodeState}
 use Rattle.arbitration.specs.declared.Injection.{Injection}
 use Rattle.scan.specs.Winner.{entryOf}
 use Rattle.arbitration.specs.Injections.{hasLegalCode}
-use Rattle.bus_state.specs.Entries.{isOff}
 use Rattle.arbitration.specs.Owed.{Writable, Tellable, PendingAt, discarded, newsTo, noticesBut, owedTo, owedLength, roomFrom}
 use Rattle.arbitration.proofs.Lengths.{owed-length-is}
 

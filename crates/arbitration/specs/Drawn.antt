@@ -9,9 +9,9 @@ use Rattle.slots.specs.declared.Slot.{Slot}
 use Rattle.bus_state.specs.Memory.{slotCount, slotsPerNode}
 use Rattle.bus_state.specs.Valid.{validState}
 use Rattle.bus_state.specs.declared.State.{State}
-use Rattle.slots.specs.Slots.{blockAt}
+use Rattle.slots.specs.Blocks.{blockAt}
 use Rattle.scan.specs.declared.Winner.{Winner}
-use Rattle.scan.specs.declared.Winner.the-variants.{Nobody, First}
+use Rattle.scan.specs.declared.Winner.the-variants.{First}
 use Rattle.scan.specs.Winner.{bestIn, ownerOf}
 
 -- they are those of some slots that are valid with the state

@@ -14,8 +14,7 @@ use Rattle.operation.specs.declared.Operation.the-variants.{Confirm, Arbitratio
 use Rattle.slots.specs.declared.Slot.{Slot}
 use Rattle.plain_bus.specs.Held.{discardAndNotify}
 use Rattle.plain_bus.specs.Round.{primaryErrorFlag, secondaryErrorFlag}
-use Rattle.bus_state.specs.Memory.{slotsPerNode, bytesPerSlot, bytesPerQueue, nodeState}
-use Rattle.bus_state.specs.Entries.{isOff}
+use Rattle.bus_state.specs.Memory.{slotsPerNode, bytesPerSlot, bytesPerQueue, nodeState, isOff}
 use Rattle.bus_state.specs.declared.State.{State}
 use Rattle.bus_state.specs.declared.NodeState.{NodeState}
 use Rattle.arbitration.specs.declared.Injection.{Injection}

@@ -3,7 +3,7 @@
 use mathlib.Core.Path.{_≡_, sym, ap, _∙_}
 use mathlib.Core.List.{List}
 use Prim.Native.Nat.{ℕ, _*_}
-use Rattle.slots.specs.Slots.{blockAt}
+use Rattle.slots.specs.Blocks.{blockAt}
 use Rattle.slots.specs.declared.Slot.{Slot}
 use Rattle.bus_state.specs.declared.State.{State}
 use Rattle.scan.specs.declared.Winner.{Winner}

@@ -4,13 +4,14 @@ use mathlib.Core.Path.{_≡_}
 use Prim.Native.Nat.{ℕ}
 use mathlib.Core.List.{List, map}
 use lib.ListN.{length}
-use Rattle.slots.specs.Slots.{blockAt}
+use Rattle.slots.specs.Blocks.{blockAt}
 use Rattle.slots.specs.declared.Slot.{Slot}
 use Rattle.bus_state.specs.Memory.{held, slotCount}
 use Rattle.bus_state.specs.declared.State.{State}
 use Rattle.scan.specs.Scan.{winnerBlock, scanned}
 use Rattle.bus_model.specs.Calls.{Result}
-use Rattle.outcome.specs.Outcome.{outcomeIs, answerOf, Ended}
+use Rattle.outcome.specs.Outcome.{answerOf}
+use Rattle.outcome.specs.Ended.{outcomeIs, Ended}
 use Rattle.outcome.specs.declared.Answer.{Answer}
 use Rattle.bus.specs.declared.Started.{Started}
 use Rattle.bus.specs.declared.Kept.{Kept}

@@ -11,7 +11,8 @@ use Rattle.operation.specs.Format.{dataLength, encode}
 use Rattle.operation.specs.declared.Operation.{Operation}
 use Rattle.operation.specs.declared.Operation.the-variants.{FormatError, CanTransmit, FdTransmit, XlTransmit, Confirm, ArbitrationLost, BusError, Configuration, Status, Wakeup}
 use Rattle.operation.proofs.Tests.{false-is-true}
-use Rattle.slots.specs.Slots.{contentOf, slotOf}
+use Rattle.slots.specs.Slots.{contentOf}
+use Rattle.slots.specs.Blocks.{slotOf}
 use Rattle.slots.specs.declared.Content.the-variants.{Transmit}
 use Rattle.operation.specs.Kinds.{isTransmit}
 use Rattle.plain_bus.specs.Submit.{accept}

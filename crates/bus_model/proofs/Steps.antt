@@ -19,7 +19,7 @@ use Rattle.decoder.specs.Front.{decode}
 use Rattle.decoder.specs.declared.Front.the-variants.{Found}
 use Rattle.decoder.proofs.Found.{found}
 use Rattle.decoder.proofs.Decoded.{decoded}
-use Rattle.slots.specs.Slots.{slotOf}
+use Rattle.slots.specs.Blocks.{slotOf}
 use Rattle.operation.specs.Kinds.{isTransmit}
 use Rattle.operation.proofs.Sizes.{transmit-short}
 use Rattle.plain_bus.specs.Held.{Node, queueCapacity, busOff, isOff, withStatus, withBehaviour, withRates, withQueue, withNode, withNodes, eachNode, allHaveRoom, enqueue}

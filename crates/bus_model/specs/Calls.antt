@@ -13,7 +13,7 @@ use Rattle.plain_bus.specs.Held.{lastRound}
 use Rattle.plain_bus.specs.Refusal.{Refusal, badNodeCount, invalid, notAttached, bufferTooLong, badInjection, queueFull, roundsUsedUp, roomTooSmall}
 use Rattle.plain_bus.specs.Order.{Winner, nobody, wins}
 use Rattle.plain_bus.specs.Round.{Injection, noError, injected, isErrored, winnerId}
-use Rattle.plain_bus.specs.Calls.{Answer, refused, accepted, idle, carried, collected, isDone, answerNumber, maxSubmit}
+use Rattle.plain_bus.specs.Calls.{Answer, refused, accepted, idle, carried, collected, isDone, maxSubmit}
 use Rattle.bus_state.specs.Memory.{Memory, bytesPerQueue, lentWell}
 use Rattle.bus_state.specs.Valid.{validState}
 use Rattle.bus_model.specs.Primitives.{entryAt, offAt, withState, emptyQueue, newState, startMemory}
@@ -24,10 +24,6 @@ use Rattle.bus_model.specs.Round.{winnerIn, owedAt, afterRoundIn}
 pub data Reply : Type 0 where
   wrongMemory : Reply
   answers : Answer → Reply
-
-abbrev pub replyNumber : Reply → ℕ
-replyNumber wrongMemory = 1
-replyNumber (answers a) = answerNumber a
 
 abbrev pub replyDone : Reply → Bool
 replyDone wrongMemory = false

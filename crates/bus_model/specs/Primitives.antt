@@ -7,11 +7,12 @@ use mathlib.Core.Bool.{Bool}
 use lib.ListN.{length, set, replicate}
 use Rattle.operation.specs.declared.Operation.{Operation}
 use Rattle.buffers.specs.Parts.{over}
-use Rattle.slots.specs.Slots.{freeSlot, slotOf}
+use Rattle.slots.specs.Slots.{freeSlot}
+use Rattle.slots.specs.Blocks.{slotOf}
 use Rattle.slots.specs.declared.Slot.{Slot}
 use Rattle.plain_bus.specs.Held.{newNode}
-use Rattle.bus_state.specs.Memory.{Memory, slotCount, slotsPerNode, bytesPerSlot, bytesPerQueue, nodeState, slotAt, dataAtSlot}
-use Rattle.bus_state.specs.Entries.{isOff, entryFill, entryPending, withEntry}
+use Rattle.bus_state.specs.Memory.{Memory, slotCount, slotsPerNode, bytesPerSlot, bytesPerQueue, nodeState, slotAt, dataAtSlot, isOff}
+use Rattle.bus_state.specs.Entries.{entryFill, entryPending, withEntry}
 use Rattle.bus_state.specs.declared.State.{State}
 use Rattle.bus_state.specs.declared.NodeState.{NodeState}
 

@@ -2,15 +2,9 @@
 -- Assumes nothing.
 use Prim.Native.Nat.{ℕ}
 use mathlib.Core.List.{List}
-use mathlib.Core.Bool.{Bool}
-use lib.Dec.{eqb}
 use lib.ListN.{set}
-use Rattle.plain_bus.specs.Held.{busOff}
 use Rattle.bus_state.specs.declared.State.{State}
 use Rattle.bus_state.specs.declared.NodeState.{NodeState}
-
-abbrev pub isOff : NodeState → Bool
-isOff d = eqb (d .status) busOff
 
 abbrev pub withEntry : State → ℕ → NodeState → State
 withEntry s j d = record { count = s .count; round = s .round; nodes = set (s .nodes) j d }

@@ -10,7 +10,7 @@ use Rattle.operation.specs.Format.{dataLength, encode}
 use Rattle.operation.specs.declared.Operation.{Operation}
 use Rattle.slots.specs.Slots.{freeSlot, contentOf, heldIn}
 use Rattle.slots.specs.declared.Slot.{Slot}
-use Rattle.plain_bus.specs.Held.{Frame, Node, Bus}
+use Rattle.plain_bus.specs.Held.{Frame, Node, Bus, busOff}
 use Rattle.bus_state.specs.declared.State.{State}
 use Rattle.bus_state.specs.declared.NodeState.{NodeState}
 
@@ -52,6 +52,9 @@ noNode = record { rates = []; fill = 0; status = 0; behaviour = 0; pending = 0 }
 
 abbrev pub nodeState : State → ℕ → NodeState
 nodeState s j = getD (s .nodes) j noNode
+
+abbrev pub isOff : NodeState → Bool
+isOff d = eqb (d .status) busOff
 
 abbrev pub slotAt : Memory → ℕ → Slot
 slotAt m p = getD (m .slots) p freeSlot

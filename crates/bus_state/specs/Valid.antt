@@ -8,8 +8,7 @@ use lib.ListN.{getD}
 use Rattle.operation.specs.Rules.{oneOf, statuses, behaviours}
 use Rattle.slots.specs.Slots.{freeSlot, contentOf, legalContent}
 use Rattle.slots.specs.declared.Slot.{Slot}
-use Rattle.bus_state.specs.Memory.{slotsPerNode, bytesPerQueue, nodeState}
-use Rattle.bus_state.specs.Entries.{isOff}
+use Rattle.bus_state.specs.Memory.{slotsPerNode, bytesPerQueue, nodeState, isOff}
 use Rattle.bus_state.specs.declared.State.{State}
 use Rattle.bus_state.specs.declared.NodeState.{NodeState}
 

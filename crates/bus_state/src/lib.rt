@@ -2,8 +2,8 @@
 ghost use mathlib.Core.Path.{_≡_};
 ghost use Prim.Native.Nat.{_<_};
 ghost use lib.ListN.{set};
-ghost use Rattle.bus_state.specs.Memory.{nodeState};
-ghost use Rattle.bus_state.specs.Entries.{withEntry, entryStatus, entryBehaviour, entryRates, entryFill, entryPending, isOff};
+ghost use Rattle.bus_state.specs.Memory.{nodeState, isOff};
+ghost use Rattle.bus_state.specs.Entries.{withEntry, entryStatus, entryBehaviour, entryRates, entryFill, entryPending};
 ghost use Rattle.bus_state.specs.Valid.{nonZero, validEntry};
 ghost use Rattle.bus_state.specs.Follows.{slotFollows};
 use slots::Slot;

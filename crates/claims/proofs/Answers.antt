@@ -14,7 +14,8 @@ use Rattle.bus_state.specs.Memory.{Memory, held}
 use Rattle.bus_state.specs.declared.State.{State}
 use Rattle.bus_model.specs.Calls.{Reply, answers, Result, bufferAfter}
 use Rattle.bus_model.specs.Session.{callIn}
-use Rattle.outcome.specs.Outcome.{refusalIs, outcomeIs, refusalRow, answerOf}
+use Rattle.outcome.specs.Outcome.{refusalIs, refusalRow, answerOf}
+use Rattle.outcome.specs.Ended.{outcomeIs}
 use Rattle.outcome.specs.declared.Outcome.{Outcome}
 use Rattle.outcome.specs.declared.Outcome.the-variants.{WrongMemory, BadNodeCount, Invalid, NotAttached, BufferTooLong, BadInjection, FourPending, QueueFull, RoundsUsedUp, RoomTooSmall, Accepted, Idle, Carried, Collected}
 use Rattle.bus.specs.Left.{leaves}

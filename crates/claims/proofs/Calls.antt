@@ -6,7 +6,7 @@ use Prim.Native.Nat.{ℕ}
 use mathlib.Core.List.{List, []}
 use lib.ListN.{length}
 use Rattle.plain_bus.specs.Held.{Bus}
-use Rattle.plain_bus.specs.Round.{Injection}
+use Rattle.plain_bus.specs.Round.{Injection, injectionFrom}
 use Rattle.plain_bus.specs.Calls.{answerNumber, bytesGiven, Outcome}
 use Rattle.plain_bus.specs.Session as session
 use Rattle.plain_bus.proofs.Outcomes.{Came, turnedDown, idled, took, carriedOut, came}
@@ -15,8 +15,8 @@ use Rattle.bus_model.specs.Calls.{answers, collectIn}
 use Rattle.bus_model.specs.Refines.{Refines}
 use Rattle.bus_model.specs.Session.{callIn, ByteCall}
 use Rattle.bus_model.proofs.Session.{Follows, call-refines}
-use Rattle.outcome.specs.Outcome.{outcomeIs, answerOf}
-use Rattle.arbitration.specs.Injections.{injectionFrom}
+use Rattle.outcome.specs.Outcome.{answerOf}
+use Rattle.outcome.specs.Ended.{outcomeIs}
 use Rattle.claims.specs.Demands.{Call, submits, arbitrates, collects, plainCall}
 use Rattle.claims.proofs.Model.{leftBy, givenBy, memoryOf}
 use Rattle.claims.proofs.Answers.{left-memory, left-call, left-number, left-answer, front-given}

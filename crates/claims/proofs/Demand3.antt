@@ -27,7 +27,7 @@ use Rattle.bus_model.proofs.Buses.{view-length}
 use Rattle.bus_model.proofs.Start.{start-refines}
 use Rattle.bus.specs.Left.{leaves}
 use Rattle.outcome.specs.declared.Answer as code
-use Rattle.arbitration.specs.Injections.{injectionFrom}
+use Rattle.plain_bus.specs.Round.{injectionFrom}
 use Rattle.claims.specs.Numbers.{firstRow, startRows}
 use Rattle.claims.specs.Demands.{Call, submits, arbitrates, collects, plainCall, answerFor, Passes, SameAs, Demanded, Started, followUp, World, opening, Follows, Session, Claim, Demand3}
 use Rattle.claims.proofs.Model.{leftBy, memoryOf, givenBy}

@@ -5,7 +5,7 @@ use mathlib.Core.List.{List, []}
 use lib.ListN.{length, take}
 use Rattle.bus_state.specs.Memory.{Memory, held}
 use Rattle.bus_model.specs.Calls.{submitIn, roundIn, collectIn, bufferAfter}
-use Rattle.arbitration.specs.Injections.{injectionFrom}
+use Rattle.plain_bus.specs.Round.{injectionFrom}
 use Rattle.bus.specs.Left.{Left, leaves}
 use Rattle.claims.specs.Demands.{Call, submits, arbitrates, collects}
 

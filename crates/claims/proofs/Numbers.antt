@@ -21,7 +21,8 @@ use Rattle.bus_model.specs.Calls.{Reply, wrongMemory, answers, replyDone, Resul
 use Rattle.bus_model.specs.Refines.{TypedMemory}
 use Rattle.bus_model.specs.Session.{callIn}
 use Rattle.bus_model.proofs.Refused as model
-use Rattle.outcome.specs.Outcome.{outcomeIs, refusalRow, answerOf}
+use Rattle.outcome.specs.Outcome.{refusalRow, answerOf}
+use Rattle.outcome.specs.Ended.{outcomeIs}
 use Rattle.bus.specs.Left.{Left, left, leaves}
 use Rattle.claims.specs.Numbers.{firstRow, startRows, plainRows, callRows}
 use Rattle.claims.specs.Demands.{Call, submits, arbitrates, collects, plainCall}

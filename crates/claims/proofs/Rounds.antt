@@ -11,7 +11,7 @@ use Rattle.operation.proofs.Tests.{false-is-true}
 use Rattle.plain_bus.specs.Held.{Frame, Bus, lastRound, nodeAt}
 use Rattle.plain_bus.specs.Refusal.{invalid, badInjection, queueFull, roundsUsedUp}
 use Rattle.plain_bus.specs.Order.{Entry, Winner, nobody, wins}
-use Rattle.plain_bus.specs.Round.{Injection, isErrored, winnerId}
+use Rattle.plain_bus.specs.Round.{Injection, isErrored, winnerId, injectionFrom}
 use Rattle.plain_bus.specs.Calls.{refused, accepted, idle, carried, collected, Outcome}
 use Rattle.plain_bus.specs.Session as session
 use Rattle.plain_bus.proofs.ValidBus.{Valid}
@@ -28,7 +28,6 @@ use Rattle.bus_model.specs.Refines.{TypedMemory, Refines}
 use Rattle.bus_model.proofs.Validity.{valid-good}
 use Rattle.bus_model.proofs.Session.{Follows}
 use Rattle.bus_model.proofs.Round.{round-refines}
-use Rattle.arbitration.specs.Injections.{injectionFrom}
 use Rattle.bus.specs.Left.{leaves}
 use Rattle.claims.specs.Demands.{Call, submits, arbitrates, collects, plainCall, SameAs, Round, idles, takes, IfRound, Among}
 use Rattle.claims.proofs.Model.{leftBy, memoryOf, givenBy}

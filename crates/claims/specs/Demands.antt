@@ -15,7 +15,7 @@ use Rattle.slots.specs.Slots.{freeSlot}
 use Rattle.slots.specs.declared.Slot.{Slot}
 use Rattle.plain_bus.specs.Held.{Frame, Bus, discards, nodeAt}
 use Rattle.plain_bus.specs.Order.{Entry, goesBefore, Pending}
-use Rattle.plain_bus.specs.Round.{Injection, isErrored, winnerId, without, owed}
+use Rattle.plain_bus.specs.Round.{Injection, isErrored, winnerId, without, owed, injectionFrom}
 use Rattle.plain_bus.specs.Calls as plain
 use Rattle.plain_bus.specs.Register.{newRegister, enter, read}
 use Rattle.plain_bus.specs.Session as session
@@ -23,10 +23,8 @@ use Rattle.plain_bus.specs.Session.{times, pendingIds, closingIds, allZero}
 use Rattle.bus_state.specs.Memory.{Memory, held, slotCount, view, lentWell}
 use Rattle.bus_state.specs.Validity.{ValidMemory}
 use Rattle.bus_state.specs.declared.State.{State}
-use Rattle.bus_model.specs.Calls.{answers}
-use Rattle.outcome.specs.Outcome.{outcomeIs, refusalRow, answerOf}
+use Rattle.outcome.specs.Outcome.{outcomeOf, refusalRow, answerOf}
 use Rattle.outcome.specs.declared.Answer.{Answer}
-use Rattle.arbitration.specs.Injections.{injectionFrom}
 use Rattle.open_frames.specs.Record.{openIn, recordOf, answered}
 use Rattle.open_frames.specs.declared.Register.{Register}
 use Rattle.open_frames.specs.declared.RegisterAnswer.{RegisterAnswer}
@@ -49,7 +47,7 @@ plainCall (collects node buffer) = session.collection node (length buffer)
 
 -- an answer of the plain bus, with 01's number and values
 abbrev pub answerFor : plain.Answer → Answer → Type 0
-answerFor p a = a ≡ answerOf (outcomeIs (answers p)) (a .state)
+answerFor p a = a ≡ answerOf (outcomeOf p) (a .state)
 
 -- a memory that refusals 1 and 3 let pass
 pub record Passes (m : Memory) : Type 0 where

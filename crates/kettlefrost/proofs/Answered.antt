@@ -19,7 +19,8 @@ use Rattle.plain_bus.specs.Round.{Injection}
 use Rattle.bus_state.specs.Memory.{Memory, lentWell}
 use Rattle.bus_model.specs.Calls.{Result, wrongMemory, checked, noStart, startIn, submitIn, roundIn, collectIn}
 use Rattle.outcome.specs.declared.Answer.{Answer}
-use Rattle.outcome.specs.Outcome.{answerOf, Ended, ended}
+use Rattle.outcome.specs.Outcome.{answerOf}
+use Rattle.outcome.specs.Ended.{Ended, ended}
 use Rattle.bus.specs.Left.{Left, left, leaves}
 
 -- the test of the slots' number, both ways

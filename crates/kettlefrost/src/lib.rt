@@ -10,7 +10,7 @@ ghost use Rattle.decoder.specs.Reading.{placed, readAt};
 ghost use Rattle.bus_state.specs.Memory.{held};
 ghost use Rattle.bus_model.specs.Primitives.{newState};
 ghost use Rattle.bus_model.specs.Calls.{startIn, submitIn, roundIn, collectIn, bufferAfter};
-ghost use Rattle.arbitration.specs.Injections.{injectionFrom};
+ghost use Rattle.plain_bus.specs.Round.{injectionFrom};
 ghost use Rattle.bus.specs.Left.{left, leaves};
 ghost use Rattle.kettlefrost.specs.Flat.{flatRow, flat, named};
 ghost use Rattle.kettlefrost.specs.Calls.{noOperation, readAnswer, dataAnswer, lengthWritten, answerNamed, writeAnswer, bufferAfterWrite};

@@ -44,7 +44,7 @@ use denote.Triple.Spec.{tripleOf}
 use denote.Triple.Walked.{says}
 use denote.Triple.Statement.{Contract, Triple}
 use Rattle.slots.specs.declared.Slot.{Slot}
-use Rattle.slots.specs.Slots.{setBlock}
+use Rattle.slots.specs.Blocks.{setBlock}
 use Rattle.slots.proofs.Slot as T
 use Rattle.lent_slots.proofs.Element.{Slots, Block, makes}
 use Rattle.lent_slots.proofs.Shared.{LentShared, lends-shared, shared-back}

@@ -3,7 +3,8 @@ ghost use mathlib.Core.Path.{_≡_};
 ghost use mathlib.Core.List.{[], _∷_, map};
 ghost use Prim.Native.Nat.{_<_, _+_, _≤_};
 ghost use lib.ListN.{length, getD, set};
-ghost use Rattle.slots.specs.Slots.{freeSlot, blockAt, setBlock};
+ghost use Rattle.slots.specs.Slots.{freeSlot};
+ghost use Rattle.slots.specs.Blocks.{blockAt, setBlock};
 ghost use Rattle.slots.specs.declared.Slot.{Slot};
 use slots::Slot;
 

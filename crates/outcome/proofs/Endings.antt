@@ -7,8 +7,8 @@ use Rattle.slots.proofs.Blocks.{same-block}
 use Rattle.slots.specs.declared.Slot.{Slot}
 use Rattle.bus_state.specs.Memory.{held}
 use Rattle.bus_state.specs.declared.State.{State}
-use Rattle.outcome.specs.Outcome.{endedBy}
-use Rattle.slots.specs.Slots.{blockAt}
+use Rattle.outcome.specs.Ended.{endedBy}
+use Rattle.slots.specs.Blocks.{blockAt}
 use Rattle.outcome.specs.declared.Outcome.{Outcome}
 
 -- four slots that are there, laid again

@@ -1,19 +1,14 @@
--- The outcome of a call: which case each reply of the model is, and what is answered in each case (01, "Numbers that calls answer with").
+-- Believed. The outcome of a call: which case each answer of the plain bus is, and what is answered in each case (01, "Numbers that calls
+-- answer with").
 -- Assumes nothing.
 use Prim.Native.Nat.{ℕ}
-use mathlib.Core.List.{List}
 use mathlib.Core.Bool.{cond}
 use lib.ListN.{length}
-use Rattle.slots.specs.Slots.{setBlock}
-use Rattle.slots.specs.declared.Slot.{Slot}
-use Rattle.plain_bus.specs.Refusal.{Refusal, numberOf, badNodeCount, invalid, notAttached, bufferTooLong, badInjection, fourPending, queueFull, roundsUsedUp, roomTooSmall}
+use Rattle.plain_bus.specs.Refusal.{Refusal, wrongMemoryNumber, numberOf, badNodeCount, invalid, notAttached, bufferTooLong, badInjection, fourPending, queueFull, roundsUsedUp, roomTooSmall}
 use Rattle.plain_bus.specs.Calls as calls
-use Rattle.bus_state.specs.Memory.{Memory, held}
 use Rattle.bus_state.specs.declared.State.{State}
-use Rattle.bus_model.specs.Calls.{Reply, wrongMemory, answers, replyNumber, Result}
 use Rattle.outcome.specs.declared.Outcome.{Outcome}
 use Rattle.outcome.specs.declared.Outcome.the-variants.{WrongMemory, BadNodeCount, Invalid, NotAttached, BufferTooLong, BadInjection, FourPending, QueueFull, RoundsUsedUp, RoomTooSmall, Accepted, Idle, Carried, Collected}
-use Rattle.outcome.specs.declared.Change.{Change}
 use Rattle.outcome.specs.declared.Answer.{Answer}
 
 abbrev pub refusalIs : Refusal → Outcome
@@ -27,14 +22,13 @@ refusalIs queueFull = QueueFull
 refusalIs roundsUsedUp = RoundsUsedUp
 refusalIs roomTooSmall = RoomTooSmall
 
--- the case of a reply; of collected bytes it has the number
-abbrev pub outcomeIs : Reply → Outcome
-outcomeIs wrongMemory = WrongMemory
-outcomeIs (answers (calls.refused r)) = refusalIs r
-outcomeIs (answers calls.accepted) = Accepted
-outcomeIs (answers calls.idle) = Idle
-outcomeIs (answers (calls.carried sender id errored age)) = Carried sender id errored age
-outcomeIs (answers (calls.collected bytes)) = Collected (length bytes)
+-- the case of an answer; of collected bytes it has the number
+abbrev pub outcomeOf : calls.Answer → Outcome
+outcomeOf (calls.refused r) = refusalIs r
+outcomeOf calls.accepted = Accepted
+outcomeOf calls.idle = Idle
+outcomeOf (calls.carried sender id errored age) = Carried sender id errored age
+outcomeOf (calls.collected bytes) = Collected (length bytes)
 
 abbrev pub answerRow : (number id age length sender idle errored : ℕ) → State → Answer
 answerRow number id age length sender idle errored s = record {
@@ -53,7 +47,7 @@ abbrev pub refusalRow : ℕ → State → Answer
 refusalRow number s = answerRow number 0 0 0 0 0 0 s
 
 abbrev pub answerOf : Outcome → State → Answer
-answerOf WrongMemory s = refusalRow (replyNumber wrongMemory) s
+answerOf WrongMemory s = refusalRow wrongMemoryNumber s
 answerOf BadNodeCount s = refusalRow (numberOf badNodeCount) s
 answerOf Invalid s = refusalRow (numberOf invalid) s
 answerOf NotAttached s = refusalRow (numberOf notAttached) s
@@ -67,19 +61,3 @@ answerOf Accepted s = answerRow 0 0 0 0 0 0 0 s
 answerOf Idle s = answerRow 0 0 0 0 0 1 0 s
 answerOf (Carried sender id errored age) s = answerRow 0 id age 0 sender 0 (cond errored 1 0) s
 answerOf (Collected n) s = answerRow 0 0 0 n 0 0 0 s
-
--- ---- what a call leaves among the slots
-
--- an outcome with the memory after it
-pub record Ended : Type 0 where
-  pub outcome : Outcome
-  pub memory : Memory
-
--- what a change comes to on the slots that it was made for
-abbrev pub endedBy : Change → List Slot → List ℕ → List ℕ → Ended
-endedBy c slots payload queues =
-    record { outcome = c .outcome; memory = held (c .state) (setBlock slots (c .at) (c .block)) payload queues }
-
--- what a result of the model comes to
-abbrev pub ended : Result → Ended
-ended r = record { outcome = outcomeIs (r .reply); memory = r .memory }

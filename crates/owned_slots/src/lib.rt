@@ -4,7 +4,7 @@ ghost use lib.ListN.{length};
 ghost use Rattle.bus_state.specs.Memory.{held};
 ghost use Rattle.bus_model.specs.Primitives.{newState};
 ghost use Rattle.bus_model.specs.Calls.{startIn, submitIn, roundIn, collectIn, bufferAfter};
-ghost use Rattle.arbitration.specs.Injections.{injectionFrom};
+ghost use Rattle.plain_bus.specs.Round.{injectionFrom};
 ghost use Rattle.bus.specs.Left.{left, leaves};
 ghost use Rattle.owned_slots.specs.WithSlots.{withSlots};
 use bus_state::State;

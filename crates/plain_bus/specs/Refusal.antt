@@ -1,5 +1,5 @@
 -- The refusals of the bus and of the register, and their numbers (01, "Numbers that calls answer with").
--- Number 0 is no refusal; 1 is about lent memory and 7 about writing, which are not at this level.
+-- Number 0 is no refusal; 7 is about writing (encoder).
 -- Assumes nothing.
 use Prim.Native.Nat.{ℕ}
 
@@ -17,6 +17,10 @@ numberOf fourPending = 8
 numberOf queueFull = 9
 numberOf roundsUsedUp = 10
 numberOf roomTooSmall = 11
+
+-- 1 is about lent memory, which the plain bus does not have
+abbrev pub wrongMemoryNumber : ℕ
+wrongMemoryNumber = 1
 
 -- those of the register (01: the book)
 pub data RegisterRefusal : Type 0 where

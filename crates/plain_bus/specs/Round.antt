@@ -16,6 +16,10 @@ pub data Injection : Type 0 where
   noError : Injection
   injected : ℕ → ℕ → Injection
 
+-- the injection that three numbers stand for: none where the first is 0, else an error's code and the number of the node that detects it
+abbrev pub injectionFrom : ℕ → ℕ → ℕ → Injection
+injectionFrom present code detector = cond (eqb present 0) noError (injected code detector)
+
 abbrev pub isErrored : Injection → Bool
 isErrored noError = false
 isErrored (injected code detector) = true

@@ -7,7 +7,8 @@ use native.Mathlib.Nat.{add-zero}
 use native.Mathlib.Omega.{arith}
 use lib.ListN.{length, getD, set}
 use lib.Seq.{set-set, set-comm, set-getD}
-use Rattle.slots.specs.Slots.{freeSlot, setBlock}
+use Rattle.slots.specs.Slots.{freeSlot}
+use Rattle.slots.specs.Blocks.{setBlock}
 use Rattle.slots.specs.declared.Slot.{Slot}
 
 -- a slot of the four is set before or after they are laid

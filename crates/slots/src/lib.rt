@@ -1,7 +1,8 @@
 // The pending slot (01: a place) by value.
 ghost use mathlib.Core.Path.{_≡_};
 ghost use Rattle.operation.specs.Kinds.{idOf};
-ghost use Rattle.slots.specs.Slots.{slotRow, freeSlot, contentOf, heldIn, slotOf, legalContent};
+ghost use Rattle.slots.specs.Slots.{slotRow, freeSlot, contentOf, heldIn, legalContent};
+ghost use Rattle.slots.specs.Blocks.{slotOf};
 use operation::Operation;
 
 // What a pending frame needs besides its data: its sender, the round at which it was accepted, and the Transmit. kind is the

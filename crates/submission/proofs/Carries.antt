@@ -15,13 +15,13 @@ use Rattle.operation.specs.declared.Operation.{Operation}
 use Rattle.operation.specs.declared.Operation.the-variants.{FormatError, Wakeup}
 use Rattle.operation.proofs.Sizes.{encode-length}
 use Rattle.encoder.proofs.Answers.{format-error-lawful}
-use Rattle.slots.specs.Slots.{slotOf, setBlock}
+use Rattle.slots.specs.Blocks.{slotOf, setBlock}
 use Rattle.slots.specs.declared.Slot.{Slot}
 use Rattle.slots.proofs.Blocks.{set-in-block}
 use Rattle.plain_bus.specs.Held.{busOff}
 use Rattle.plain_bus.specs.Submit.{formatError}
-use Rattle.bus_state.specs.Memory.{held, slotsPerNode, bytesPerSlot, bytesPerQueue, noNode, nodeState}
-use Rattle.bus_state.specs.Entries.{isOff, withEntry, entryStatus, entryFill}
+use Rattle.bus_state.specs.Memory.{held, slotsPerNode, bytesPerSlot, bytesPerQueue, noNode, nodeState, isOff}
+use Rattle.bus_state.specs.Entries.{withEntry, entryStatus, entryFill}
 use Rattle.bus_state.specs.declared.State.{State}
 use Rattle.bus_state.specs.declared.NodeState.{NodeState}
 use Rattle.bus_model.specs.Primitives.{setEntry, fillSlot, putFrame, append, clearNode, inTurn}

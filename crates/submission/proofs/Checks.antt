@@ -7,10 +7,9 @@ use native.Mathlib.Omega.{arith}
 use lib.Dec.{leb}
 use borrow.Author.Tests.{leb-true, leb-false}
 use Rattle.operation.specs.declared.Operation.{Operation}
-use Rattle.bus_state.specs.Memory.{slotsPerNode, bytesPerQueue, nodeState}
+use Rattle.bus_state.specs.Memory.{slotsPerNode, bytesPerQueue, nodeState, isOff}
 use Rattle.bus_state.specs.declared.State.{State}
 use Rattle.bus_state.specs.declared.NodeState.{NodeState}
-use Rattle.bus_state.specs.Entries.{isOff}
 use Rattle.submission.specs.Counting.{isWakeup, wakeupRoom, answerLength, entryCheck, check}
 use Rattle.submission.specs.declared.Effect.{Effect}
 use Rattle.submission.specs.declared.Effect.the-variants.{Nothing, Transmit, Answer, SetRate, SetBehaviour, SetStatus, Wake}

@@ -9,8 +9,8 @@ use lib.Dec.{eqb}
 use lib.ListN.{length}
 use Rattle.plain_bus.specs.Held.{busOff}
 use Rattle.plain_bus.specs.Calls.{maxSubmit}
-use Rattle.bus_state.specs.Memory.{bytesPerQueue, nodeState}
-use Rattle.bus_state.specs.Entries.{isOff, withEntry}
+use Rattle.bus_state.specs.Memory.{bytesPerQueue, nodeState, isOff}
+use Rattle.bus_state.specs.Entries.{withEntry}
 use Rattle.bus_state.specs.declared.State.{State}
 use Rattle.bus_state.specs.declared.NodeState.{NodeState}
 use Rattle.submission.specs.Counting.{cleared, statusSet, entryCheck, entryAfter, wakeupRoom, wokenBy}

@@ -6,14 +6,14 @@ use Prim.Native.Nat.{ℕ, _*_, _≤_, _<_}
 use lib.ListN.{length}
 use borrow.Author.Tests.{lt-ltb, le-ltb}
 use Rattle.decoder.specs.Stream.{itemsOf}
-use Rattle.slots.specs.Slots.{setBlock, blockAt}
+use Rattle.slots.specs.Blocks.{setBlock, blockAt}
 use Rattle.slots.specs.declared.Slot.{Slot}
 use Rattle.slots.proofs.Blocks.{same-block}
 use Rattle.plain_bus.specs.Calls.{maxSubmit}
 use Rattle.bus_state.specs.Memory.{Memory, held, slotsPerNode}
 use Rattle.bus_state.specs.declared.State.{State}
 use Rattle.bus_model.specs.Calls.{takenIn, submitted}
-use Rattle.outcome.specs.Outcome.{ended}
+use Rattle.outcome.specs.Ended.{ended}
 use Rattle.outcome.specs.declared.Outcome.the-variants.{NotAttached, BufferTooLong, FourPending, QueueFull, Accepted}
 use Rattle.submission.specs.Counting.{checkItems}
 use Rattle.submission.specs.Carrying.{memoryAfterAll, firstSlot}

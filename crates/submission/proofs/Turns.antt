@@ -10,15 +10,14 @@ use Rattle.buffers.specs.Parts.{over}
 use Rattle.operation.specs.Format.{headLength}
 use Rattle.operation.specs.declared.Operation.{Operation}
 use Rattle.decoder.specs.Stream.{itemsOf}
-use Rattle.slots.specs.Slots.{slotOf, setBlock}
+use Rattle.slots.specs.Blocks.{slotOf, setBlock}
 use Rattle.slots.specs.declared.Slot.{Slot}
 use Rattle.plain_bus.specs.Submit.{formatError}
 use Rattle.plain_bus.specs.Calls.{maxSubmit}
-use Rattle.bus_state.specs.Memory.{Memory, held, slotsPerNode, bytesPerSlot, bytesPerQueue, payloadBytes, queueBytes, nodeState}
+use Rattle.bus_state.specs.Memory.{Memory, held, slotsPerNode, bytesPerSlot, bytesPerQueue, payloadBytes, queueBytes, nodeState, isOff}
 use Rattle.bus_state.specs.declared.State.{State}
 use Rattle.bus_state.specs.declared.NodeState.{NodeState}
 use Rattle.submission.specs.Effects.{Taken}
-use Rattle.bus_state.specs.Entries.{isOff}
 use Rattle.submission.specs.Counting.{isWakeup, wakeupRoom, wokenBy, answerLength, entryCheck, entryAfter, check, andThen, checkItems}
 use Rattle.submission.specs.Carrying.{memoryAfter, memoryAfterAll, queueWith, wakeupsLaid}
 use Rattle.submission.specs.declared.Effect.the-variants.{Transmit, Answer, Wake}

@@ -10,8 +10,8 @@ use Rattle.operation.specs.Format.{lengthOf}
 use Rattle.operation.specs.declared.Operation.the-variants.{FormatError, Wakeup}
 use Rattle.decoder.specs.Stream.{Item, bytesOf}
 use Rattle.plain_bus.specs.Held.{busOff}
-use Rattle.bus_state.specs.Memory.{slotsPerNode, bytesPerQueue, noNode, nodeState}
-use Rattle.bus_state.specs.Entries.{isOff, entryStatus, entryBehaviour, entryRates, entryFill, entryPending, withEntry}
+use Rattle.bus_state.specs.Memory.{slotsPerNode, bytesPerQueue, noNode, nodeState, isOff}
+use Rattle.bus_state.specs.Entries.{entryStatus, entryBehaviour, entryRates, entryFill, entryPending, withEntry}
 use Rattle.bus_state.specs.declared.State.{State}
 use Rattle.bus_state.specs.declared.NodeState.{NodeState}
 use Rattle.submission.specs.Effects.{effectOf}

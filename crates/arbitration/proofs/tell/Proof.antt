@@ -1,7 +1,7 @@
 -- The news at the fill.
 use Prim.Native.Nat.{ℕ, _+_, _*_}
 use Rattle.arbitration.proofs.Lengths.{news-length-is}
-use Rattle.bus_state.specs.Entries.{isOff}
+use Rattle.bus_state.specs.Memory.{isOff}
 use Rattle.slots.specs.Slots.{contentOf, heldIn}
 use borrow.Author.Needs.{needs}
 use denote.Ref.{now}

@@ -50,7 +50,8 @@ use Rattle.bus_state.proofs.State as St
 use Rattle.bus_model.specs.Calls.{Result, collectIn, bufferAfter}
 use Rattle.outcome.specs.declared.Answer.{Answer}
 use Rattle.outcome.specs.declared.Outcome.the-variants.{WrongMemory}
-use Rattle.outcome.specs.Outcome.{answerOf, ended}
+use Rattle.outcome.specs.Outcome.{answerOf}
+use Rattle.outcome.specs.Ended.{ended}
 use Rattle.outcome.proofs.Answer as An
 use Rattle.bus.specs.Left.{left, leaves, keptBy, Scanned}
 use Rattle.bus.specs.declared.Kept.{Kept}

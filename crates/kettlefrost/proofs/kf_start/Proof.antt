@@ -49,7 +49,8 @@ use Rattle.bus_model.specs.Primitives.{newState}
 use Rattle.bus_model.specs.Calls.{startIn}
 use Rattle.outcome.specs.declared.Answer.{Answer}
 use Rattle.outcome.specs.declared.Outcome.the-variants.{WrongMemory}
-use Rattle.outcome.specs.Outcome.{answerOf, ended}
+use Rattle.outcome.specs.Outcome.{answerOf}
+use Rattle.outcome.specs.Ended.{ended}
 use Rattle.outcome.proofs.Answer as An
 use Rattle.bus.specs.Left.{left, leaves, startedBy}
 use Rattle.bus.specs.declared.Started.{Started}

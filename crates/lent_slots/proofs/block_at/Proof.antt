@@ -39,7 +39,8 @@ use denote.Triple.Table.{entered, cited}
 use denote.Triple.Walked.{says, needs, Stays, stay-none-slice, stay-none, walkOf, goes-none-slice, goes-none, Walks, ends-at, walked, walk-meets}
 use denote.Exit.{yes}
 use Rattle.slots.specs.declared.Slot.{Slot}
-use Rattle.slots.specs.Slots.{freeSlot, blockAt}
+use Rattle.slots.specs.Slots.{freeSlot}
+use Rattle.slots.specs.Blocks.{blockAt}
 use Rattle.slots.proofs.Slot as T
 use Rattle.lent_slots.proofs.Element.{Block, IsSlot, looks-slots, makes, slot-out, typed, typed-block, value}
 use Rattle.lent_slots.proofs.Called.{hears, said}

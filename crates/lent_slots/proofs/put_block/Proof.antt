@@ -41,7 +41,8 @@ use denote.Triple.Table.{entered}
 use denote.Triple.Walked.{says, needs, Stays, stay-slice, stay-none, walkOf, goes-slice, goes-none, Walks, ends-at, walked, walk-meets}
 use denote.Exit.{yes}
 use Rattle.slots.specs.declared.Slot.{Slot}
-use Rattle.slots.specs.Slots.{freeSlot, setBlock}
+use Rattle.slots.specs.Slots.{freeSlot}
+use Rattle.slots.specs.Blocks.{setBlock}
 use Rattle.slots.proofs.Slot as T
 use Rattle.lent_slots.proofs.Element.{Block, BlockTy, makes, slot-out, slot-owned, tells, typed, typed-block, value, values}
 use Rattle.lent_slots.proofs.Row.{row-out, row-in}

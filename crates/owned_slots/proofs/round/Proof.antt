@@ -54,7 +54,7 @@ use Rattle.bus_state.proofs.State as St
 use Rattle.bus_model.specs.Calls.{roundIn}
 use Rattle.outcome.specs.declared.Answer.{Answer}
 use Rattle.outcome.proofs.Answer as An
-use Rattle.arbitration.specs.Injections.{injectionFrom}
+use Rattle.plain_bus.specs.Round.{injectionFrom}
 use Rattle.bus.specs.Left.{left, leaves}
 use Rattle.kettlefrost.proofs.Rows.{answer-makes, answer-typed}
 use Rattle.lent_scan.proofs.Values.{IsState, state-makes, state-tells, state-typed, stateVal, stateVals}

@@ -1,5 +1,5 @@
 -- Each arm is the slot of its kind.
-use Rattle.slots.specs.Slots.{slotOf}
+use Rattle.slots.specs.Blocks.{slotOf}
 use borrow.Author.Needs.{needs}
 use Rattle.slots.proofs.slot_of.Statement.{statement}
 use Rattle.slots.proofs.slot_of.Tie as tie

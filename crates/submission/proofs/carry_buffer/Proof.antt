@@ -2,7 +2,7 @@
 use Prim.Native.Nat.{_-_, _*_}
 use Rattle.bus_state.specs.Memory.{held, slotsPerNode}
 use Rattle.decoder.specs.Stream.{itemsOf}
-use Rattle.slots.specs.Slots.{setBlock}
+use Rattle.slots.specs.Blocks.{setBlock}
 use Rattle.slots.specs.declared.Slot.{Slot}
 use Rattle.submission.proofs.Blocks.{four-slots}
 use Rattle.submission.proofs.Takes.{next-end, next-taken}
