@@ -46,3 +46,4 @@ pub mod registers;
 pub mod session;
 pub mod session_tally;
 pub mod tally;
+pub mod wrong_content;
