@@ -79,8 +79,11 @@ const SUBMITTED: [u32; 5] = [
     codec::STATUS,
 ];
 
+/// A wrong program: its name, and the change that makes it.
+type Row = (&'static str, fn(&mut Played));
+
 #[rustfmt::skip]
-const PLANTS: &[(&str, fn(&mut Played))] = &[
+const PLANTS: &[Row] = &[
     // "Check that these break it: a bus refusing everything or always idle .. one delivering the same frame
     // each time .. one that runs a correct first round and only raises the round number later .. one that
     // makes up the age"
@@ -198,8 +201,8 @@ const PLANTS: &[(&str, fn(&mut Played))] = &[
     ("Configuration sets the next node's value", configure_next),
     ("Configuration sets the value of all nodes", configure_all),
     ("a Bus-Off node's Configuration has no effect", |p| p.skip(|s| s.bus_off && s.is_configuration())),
-    ("behaviours exchanged", |p| p.replace(|s| exchange_behaviour(s))),
-    ("ERROR_ACTIVE and ERROR_PASSIVE exchanged", |p| p.replace(|s| exchange_status(s))),
+    ("behaviours exchanged", |p| p.replace(exchange_behaviour)),
+    ("ERROR_ACTIVE and ERROR_PASSIVE exchanged", |p| p.replace(exchange_status)),
     ("a Status other than Bus-Off has no effect", |p| p.skip(|s| s.is_status() && s.op != Ok(Operation::BUS_OFF))),
     ("Bus-Off is not left again", |p| p.skip(|s| s.bus_off && s.is_status())),
     // "Status Bus-Off removes all the node's pending frames and empties its queue;"

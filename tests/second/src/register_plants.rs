@@ -72,9 +72,7 @@ pub fn plants() -> impl Iterator<Item = (String, PlantedRegister)> {
     session_plants().chain(named(PLANTS)).chain(content)
 }
 
-fn named(
-    table: &'static [(&str, fn(&mut Played))],
-) -> impl Iterator<Item = (String, PlantedRegister)> {
+fn named(table: &'static [Row]) -> impl Iterator<Item = (String, PlantedRegister)> {
     table.iter().map(|&(name, alter)| (name.to_string(), PlantedRegister(Box::new(alter))))
 }
 
@@ -84,8 +82,11 @@ const ENTERED: [u32; 4] =
 /// The kinds of which soundness shows when they are read.
 const CLOSINGS: [u32; 3] = [codec::CONFIRM, codec::ARBITRATION_LOST, codec::BUS_ERROR];
 
+/// A wrong program: its name, and the change that makes it.
+type Row = (&'static str, fn(&mut Played));
+
 #[rustfmt::skip]
-const SESSION_PLANTS: &[(&str, fn(&mut Played))] = &[
+const SESSION_PLANTS: &[Row] = &[
     // "Easy errors: closing an open frame on a Bus Error meant for another sender with the same ID"
     ("a Bus Error meant for another sender with the same ID closes", close_for_another),
     // "Entering a handed-in buffer adds one ID, at the end, per sound Transmit while not Bus-Off;"
@@ -115,7 +116,7 @@ const SESSION_PLANTS: &[(&str, fn(&mut Played))] = &[
 ];
 
 #[rustfmt::skip]
-const PLANTS: &[(&str, fn(&mut Played))] = &[
+const PLANTS: &[Row] = &[
     // "A new book is empty and not Bus-Off."
     ("a new book has an open ID", |p| if p.call.is_none() { p.answer.register.count = 1 }),
     ("a new book is Bus-Off", |p| if p.call.is_none() { p.answer.register.off = 1 }),
