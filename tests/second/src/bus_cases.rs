@@ -86,8 +86,8 @@ impl Cases {
                 let (part, size) = (random.pick(&Part::ALL), random.pick(&Size::ALL));
                 Case::WrongSize { part, size, unstarted: random.once_in(4) }
             }
-            24..54 => Case::Invalid(random.pick(&self.rules)),
-            54..64 => Case::Change,
+            24..104 => Case::Invalid(random.pick(&self.rules)),
+            104..114 => Case::Change,
             _ => Case::Call,
         }
     }

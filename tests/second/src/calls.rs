@@ -33,7 +33,9 @@ impl Calls {
     /// A node count for the next session, at times one that is refused.
     pub fn start(&mut self) -> usize {
         let random = &mut self.random;
-        self.ids = [random.below(2_048) as u32, random.below(16) as u32, codec::LARGEST_ID];
+        let standard = random.below(2_048) as u32;
+        let edge = random.pick(&[standard, standard, 2_047, 2_048]);
+        self.ids = [edge, random.below(16) as u32, codec::LARGEST_ID];
         self.rounds = random.pick(&[15, 30, 45]);
         self.collects = random.pick(&[4, 12, 30]);
         match random.below(24) {
@@ -45,7 +47,7 @@ impl Calls {
     /// A round number to start from: 0, or near the largest.
     pub fn round_number(&mut self) -> u32 {
         match self.random.below(8) {
-            0 => u32::MAX - self.random.below(32) as u32,
+            0 => u32::MAX - self.random.below(12) as u32,
             _ => 0,
         }
     }

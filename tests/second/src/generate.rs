@@ -519,7 +519,8 @@ fn no_id(random: &mut Random) -> u32 {
 }
 
 fn no_fd_length(random: &mut Random) -> u16 {
-    let length = random.pick(&[9, 10, 11, 13, 15, 17, 21, 25, 31, 33, 47, 49, 63, 65, 128, 257]);
+    let edges = [9, 10, 11, 13, 15, 17, 21, 25, 28, 31, 33, 40, 47, 49, 56, 63, 65, 128, 257];
+    let length = random.pick(&edges);
     let between = 9 + random.below(60) as u16;
     if FD_LENGTHS.contains(&between) {
         length

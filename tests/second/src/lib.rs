@@ -5,6 +5,10 @@
 //! The two meet in the crate `kettlefrost`, which links the library: what is compared
 //! and measured is what a user of Rust calls.
 //!
+//! Each comparison first has to find the wrong programs that are planted for it: one
+//! or more for each rule of 01, and those that 01 names (`plants`, `bus_plants`,
+//! `register_plants`, `wrong_content`). It says after how many calls it does.
+//!
 //! - `cargo test` holds codec, buses and register against W1 to W10 and the easy
 //!   errors, and demand 3 against random sessions,
 //! - `cargo run --release --bin compare` compares the two codecs on generated cases,
@@ -46,3 +50,4 @@ pub mod registers;
 pub mod session;
 pub mod session_tally;
 pub mod tally;
+pub mod wrong_content;

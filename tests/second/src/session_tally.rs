@@ -51,6 +51,8 @@ pub enum Outcome {
         bus_off: bool,
     },
     Removed(Removal),
+    /// A frame with the largest ID of Ide 0, or the one above it.
+    AcceptedId(u32),
     /// Closings in the queue of a node that went Bus-Off.
     ClosingsDropped,
     /// A Transmit behind a Bus-Off that removed frames of the same buffer:
@@ -170,6 +172,9 @@ impl SessionTally {
                         self.rows.count(Outcome::BehindBusOff { back: !bus_off });
                     }
                     new += usize::from(!bus_off);
+                    if let (false, Some(id @ (2_047 | 2_048))) = (bus_off, op.transmit_id()) {
+                        self.rows.count(Outcome::AcceptedId(id));
+                    }
                 }
                 _ => {}
             }
@@ -325,6 +330,7 @@ fn outcomes() -> Vec<Outcome> {
     let mut all = vec![ClosingsDropped, Aged, FullByArbitrationLost, LargestRoundNumberReached];
     all.extend([EmptyBuffer, LongestBuffer, CollectedNothing, CollectedExactly]);
     all.extend([8, 9].map(BusOffMadeRoom));
+    all.extend([2_047, 2_048].map(AcceptedId));
     for call in [CallKind::Submit, CallKind::Round] {
         all.extend([QueueFilled(call), OneByteShort(call)]);
     }

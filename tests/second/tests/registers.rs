@@ -5,7 +5,7 @@ use kettlefrost::raw;
 use second::codec::Operation;
 use second::memory::Second;
 use second::register_comparison::RegisterComparison;
-use second::register_plants::{PlantedRegister, PLANTS, SESSION_PLANTS};
+use second::register_plants::plants;
 use second::registers::RegisterCall::{Enter, Read};
 use second::registers::Registers;
 
@@ -99,8 +99,8 @@ fn drawn_calls_come_to_every_outcome() {
 
 #[test]
 fn wrong_registers_are_found() {
-    for (name, plant) in SESSION_PLANTS.into_iter().chain(PLANTS) {
-        let mut comparison = RegisterComparison::new(Box::new(PlantedRegister(plant)));
+    for (name, plant) in plants() {
+        let mut comparison = RegisterComparison::new(Box::new(plant));
         assert!(comparison.run(2_003, 40_000).is_err(), "not found: {name}");
     }
 }

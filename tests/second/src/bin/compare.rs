@@ -5,7 +5,7 @@ use std::process::ExitCode;
 use std::time::Instant;
 
 use second::comparison::{Comparison, Library, Second};
-use second::plants::PLANTS;
+use second::plants::plants;
 
 const USAGE: &str = "usage: compare [--seed N] [--cases N]";
 
@@ -33,7 +33,7 @@ impl Options {
 /// was found. The library is left out, so that only what was planted differs.
 fn self_check(options: &Options) -> bool {
     let mut all = true;
-    for (name, plant) in PLANTS {
+    for (name, plant) in plants() {
         let mut comparison = Comparison::new(Second, plant);
         let found = comparison.run(options.seed, options.cases).is_err();
         let cases = comparison.tally.cases();

@@ -6,7 +6,7 @@ use std::time::Instant;
 
 use second::memory::Library;
 use second::register_comparison::RegisterComparison;
-use second::register_plants::{PlantedRegister, PLANTS, SESSION_PLANTS};
+use second::register_plants::plants;
 
 const USAGE: &str = "usage: registers [--seed S] [--calls N]";
 
@@ -37,8 +37,8 @@ const SELF_CHECK_CALLS: u64 = 100_000;
 /// one was found.
 fn self_check(seed: u64) -> bool {
     let mut all = true;
-    for (name, plant) in SESSION_PLANTS.into_iter().chain(PLANTS) {
-        let mut comparison = RegisterComparison::new(Box::new(PlantedRegister(plant)));
+    for (name, plant) in plants() {
+        let mut comparison = RegisterComparison::new(Box::new(plant));
         let found = comparison.run(seed, SELF_CHECK_CALLS).is_err();
         let verdict = if found { "found after" } else { "not found in" };
         println!("self-check: {name}: {verdict} {} calls", comparison.calls());

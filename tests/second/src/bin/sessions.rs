@@ -6,9 +6,9 @@ use std::process::ExitCode;
 use std::time::Instant;
 
 use second::bus_comparison::Comparison;
-use second::bus_plants::{Planted, PLANTS};
+use second::bus_plants::{changes_nothing, plants};
 use second::memory::{Calls, Library, Second};
-use second::register_plants::{PlantedRegister, SESSION_PLANTS};
+use second::register_plants::{session_plants, stays_empty};
 
 const USAGE: &str = "usage: sessions [--seed S] [--calls N] [--plants]";
 
@@ -41,17 +41,19 @@ const SELF_CHECK_CALLS: u64 = 1_000_000;
 /// so that only what was planted differs.
 fn self_check(seed: u64) -> bool {
     let mut all = true;
-    for (name, plant) in PLANTS {
+    for (name, plant) in plants() {
         let sides: Vec<(_, Box<dyn Calls>)> =
-            vec![("second bus", Box::new(Second)), ("wrong bus", Box::new(Planted(plant)))];
-        all &= is_found(name, Comparison::new(sides, Box::new(Second)), seed);
+            vec![("second bus", Box::new(Second)), ("wrong bus", Box::new(plant))];
+        all &= is_found(&name, Comparison::new(sides, Box::new(Second)), seed);
     }
-    for (name, plant) in SESSION_PLANTS {
+    for (name, plant) in session_plants() {
         let sides: Vec<(_, Box<dyn Calls>)> = vec![("second bus", Box::new(Second))];
-        let register = Box::new(PlantedRegister(plant));
-        all &= is_found(name, Comparison::new(sides, register), seed);
+        all &= is_found(&name, Comparison::new(sides, Box::new(plant)), seed);
     }
-    all
+    // Alone, so that only the plain bus can find it.
+    let sides: Vec<(_, Box<dyn Calls>)> = vec![("wrong bus", Box::new(changes_nothing()))];
+    let comparison = Comparison::new(sides, Box::new(stays_empty()));
+    all & is_found("a bus that changes nothing while books stay empty", comparison, seed)
 }
 
 fn is_found(name: &str, mut comparison: Comparison, seed: u64) -> bool {
@@ -72,7 +74,7 @@ fn main() -> ExitCode {
         return ExitCode::FAILURE;
     }
     if options.plants {
-        let (buses, registers) = (PLANTS.len(), SESSION_PLANTS.len());
+        let (buses, registers) = (plants().count() + 1, session_plants().count());
         println!("sessions: {buses} wrong buses and {registers} wrong registers, all found");
         return ExitCode::SUCCESS;
     }
