@@ -54,7 +54,7 @@ fn are_non_zero(rates: [u32; 3]) -> bool
     (1 <= rates[0]) & (1 <= rates[1]) & (1 <= rates[2])
 }
 
-// The tests leave at the first that fails, which is quicker than joining them by and (docs/PERFORMANCE.md).
+// The tests leave at the first that fails, which is quicker than joining them by and (docs/notes/00-base-speed.md).
 pub fn entry_is_valid(d: NodeState) -> bool
     ensures { λ r. ⌜ r ≡ validEntry d ⌝ }
 {

@@ -1,1 +1,1 @@
-// No code: the customer's demands (specs/Demands), proved of the definitions that the calls' contracts name.
+// No code: the customer's demands (specs/Demands, specs/RoundTrip), proved of the exported functions (specs/Exported).

@@ -6,7 +6,7 @@ ghost use Rattle.slots.specs.Blocks.{slotOf};
 use operation::Operation;
 
 // What a pending frame needs besides its data: its sender, the round at which it was accepted, and the Transmit. kind is the
-// code of the Transmit, 0 in a free slot; first to fourth are the one-byte fields in their order.
+// code of the Transmit, and any other number in a slot that holds none; first to fourth are the one-byte fields in their order.
 #[repr(C)]
 pub struct Slot {
     pub accepted: u32,
