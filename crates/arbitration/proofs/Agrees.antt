@@ -29,7 +29,7 @@ use Rattle.bus_model.proofs.Touched.{Tidy}
 use Rattle.bus_model.proofs.Settle.{owed-view}
 use Rattle.arbitration.specs.declared.Injection.{Injection}
 use Rattle.arbitration.specs.declared.Injection.the-variants.{NoError, Injected}
-use Rattle.arbitration.specs.Injections.{injectionOf, hasLegalCode}
+use Rattle.arbitration.specs.Injections.{injectionOf}
 use Rattle.scan.specs.Winner.{heldAt}
 use Rattle.arbitration.specs.Owed.{PendingAt, discards, discarded, newsTo, noticesBut, owedTo, owedLength, roomFrom}
 use Rattle.arbitration.proofs.Attached.{count-few, node-at}
@@ -104,7 +104,7 @@ news-view (Injected code detector) m j owner position = refl
 -- ---- all of it, where the state is valid and the winner is pending
 
 module _ (s : State) (a : List Slot) (payload queues : List ℕ) (e : Injection) (owner position : ℕ)
-    (sized : Sized (held s a payload queues)) (v : validState s a ≡ true) (c : hasLegalCode e ≡ true) (w : PendingAt s owner position)
+    (sized : Sized (held s a payload queues)) (v : validState s a ≡ true) (w : PendingAt s owner position)
     (ids : List ℕ) (named : ids ≡ map (λ (x : Slot). x .id) a) where
   abbrev m : Memory
   m = held s a payload queues
@@ -153,8 +153,7 @@ module _ (s : State) (a : List Slot) (payload queues : List ℕ) (e : Injection)
       → length (owedTo e (nodeState s j) j owner position op ids (dataAtSlot m (4 * owner + position)))
       ≡ owedLength e (nodeState s j) (eqb j owner) size
   owed-size =
-      owed-length-is e op (dataAtSlot m (4 * owner + position)) size (tellable s a v ids named) w
-      (node-at s a v owner (w .0) .frames position (w .1)) c data-whole refl
+      owed-length-is e op (dataAtSlot m (4 * owner + position)) size (tellable s a v ids named) w data-whole refl
 
   -- in the model's words
   owed-at : (j : ℕ) → j < s .count

@@ -32,7 +32,7 @@ use Rattle.bus_model.proofs.Views.{Fits, same-fits, same-view}
 use Rattle.bus_model.proofs.Touched.{Touched, same-tidy}
 use Rattle.bus_model.proofs.Settle.{owed-view, settle-touched}
 use Rattle.arbitration.specs.declared.Injection.{Injection}
-use Rattle.arbitration.specs.Injections.{injectionOf, hasLegalCode}
+use Rattle.arbitration.specs.Injections.{injectionOf}
 use Rattle.scan.specs.Winner.{heldAt}
 use Rattle.arbitration.specs.Owed.{PendingAt, discards, own, stayCount, owedTo, roomFrom}
 use Rattle.arbitration.specs.After.{entryAfter, entriesAfter, stateAfter, queuesAfter, blockWithout, payloadWithout}
@@ -133,7 +133,7 @@ settle-step e w x j h =
 -- ---- all turns
 
 module _ (s : State) (a : List Slot) (payload queues : List ℕ) (e : Injection) (owner position : ℕ)
-    (sized : Sized (held s a payload queues)) (v : validState s a ≡ true) (c : hasLegalCode e ≡ true) (w : PendingAt s owner position)
+    (sized : Sized (held s a payload queues)) (v : validState s a ≡ true) (w : PendingAt s owner position)
     (ids : List ℕ) (named : ids ≡ map (λ (x : Slot). x .id) a)
     (room : roomFrom e (s .nodes) owner (lengthOf (heldAt a (4 * owner + position))) 0 (s .count) ≡ true) where
   abbrev m : Memory
@@ -170,24 +170,24 @@ module _ (s : State) (a : List Slot) (payload queues : List ℕ) (e : Injection)
 
   module _ (j : ℕ) (h : j < s .count) (x : Memory) (b : Before j x) where
     at-fits : Fits m j
-    at-fits = node-fits s a payload queues e owner position sized v c w ids named j h
+    at-fits = node-fits s a payload queues e owner position sized v w ids named j h
 
     at-placed : eqb j owner ≡ true → position < entryAt x j .pending
-    at-placed q = rw (b .same j (omega arith) .entry) (node-placed s a payload queues e owner position sized v c w ids named j q)
+    at-placed q = rw (b .same j (omega arith) .entry) (node-placed s a payload queues e owner position sized v w ids named j q)
 
     at-owed : owedAt (injectionOf e) winner x j ≡ owedTo e (nodeState s j) j owner position op ids bytes
     at-owed =
         let q = b .same j (omega arith) in
-        owed-view x (b .lengths) j (number-few s a payload queues e owner position sized v c w ids named j h) (same-fits q at-fits)
-        (same-tidy q at-fits (node-tidy s a payload queues e owner position sized v c w ids named j h)) winner at-placed (injectionOf e)
+        owed-view x (b .lengths) j (number-few s a payload queues e owner position sized v w ids named j h) (same-fits q at-fits)
+        (same-tidy q at-fits (node-tidy s a payload queues e owner position sized v w ids named j h)) winner at-placed (injectionOf e)
         ∙ ap (owed (injectionOf e) winner j) (same-view q at-fits)
-        ∙ owed-is s a payload queues e owner position sized v c w ids named j h
+        ∙ owed-is s a payload queues e owner position sized v w ids named j h
 
     at-room : entryAt x j .fill + length (owed (injectionOf e) winner j (nodeView x j)) ≤ 4_096
     at-room =
         let q = b .same j (omega arith) in
-        let k = owed-is s a payload queues e owner position sized v c w ids named j h in
-        let n = owed-size s a payload queues e owner position sized v c w ids named j h in
+        let k = owed-is s a payload queues e owner position sized v w ids named j h in
+        let n = owed-size s a payload queues e owner position sized v w ids named j h in
         rw (q .entry, same-view q at-fits, k, n) (room-at e (s .nodes) owner size (s .count) room j h)
 
     at-turn : turn x j
@@ -198,16 +198,16 @@ module _ (s : State) (a : List Slot) (payload queues : List ℕ) (e : Injection)
     unfolding entryAfter
     at-turn =
         let q = b .same j (omega arith) in
-        let l : j < length (x .state .nodes) = omega (arith, b .lengths .nodes, number-few s a payload queues e owner position sized v c w ids named j h) in
-        let n = owed-size s a payload queues e owner position sized v c w ids named j h in
+        let l : j < length (x .state .nodes) = omega (arith, b .lengths .nodes, number-few s a payload queues e owner position sized v w ids named j h) in
+        let n = owed-size s a payload queues e owner position sized v w ids named j h in
         settle-step (injectionOf e) winner x j l ∙ rw (at-owed, n, q .entry)
 
     -- its turn touches no other node
     at-touched : Touched x (turn x j) j (plain.settle (injectionOf e) winner j (nodeView x j))
     at-touched =
         let q = b .same j (omega arith) in
-        settle-touched x (b .lengths) j (number-few s a payload queues e owner position sized v c w ids named j h) (same-fits q at-fits)
-        (same-tidy q at-fits (node-tidy s a payload queues e owner position sized v c w ids named j h)) winner at-placed (injectionOf e) at-room
+        settle-touched x (b .lengths) j (number-few s a payload queues e owner position sized v w ids named j h) (same-fits q at-fits)
+        (same-tidy q at-fits (node-tidy s a payload queues e owner position sized v w ids named j h)) winner at-placed (injectionOf e) at-room
 
     next : Before (suc j) (turn x j)
     next = record {
@@ -251,7 +251,7 @@ module _ (s : State) (a : List Slot) (payload queues : List ℕ) (e : Injection)
       (queuesAfter e (s .nodes) owner position op ids bytes 0 (s .count) queues)
   unfolding afterRoundIn setRound stateAfter
   after-is =
-      let o = number-few s a payload queues e owner position sized v c w ids named owner (w .0) in
+      let o = number-few s a payload queues e owner position sized v w ids named owner (w .0) in
       let few = node-at s a v owner (w .0) .few in
       let k = slots-down a (4 * owner) position (nodeState s owner .pending - 1) (omega (arith, sized .slots)) (omega (arith, w .1)) (omega (arith, few, w .1)) in
       let p = payload-down (blockAt a (4 * owner)) (4 * owner) (nodeState s owner .pending - 1 - position) a payload position (λ i l u. sym (block-slot a (4 * owner) i u)) (omega (arith, few, w .1)) in

@@ -26,7 +26,7 @@ use Rattle.outcome.specs.declared.Outcome.{Outcome}
 use Rattle.outcome.specs.declared.Outcome.the-variants.{BadInjection, QueueFull, RoundsUsedUp, Idle, Carried}
 use Rattle.arbitration.specs.declared.Injection.{Injection}
 use Rattle.scan.specs.declared.Winner.the-variants.{Nobody, First}
-use Rattle.arbitration.specs.Injections.{injectionOf, hasLegalCode, isWrong}
+use Rattle.arbitration.specs.Injections.{injectionOf, isWrong}
 use Rattle.scan.specs.Winner.{heldAt, bestIn}
 use Rattle.arbitration.specs.Drawn.{DrawnAt}
 use Rattle.arbitration.specs.Owed.{roomFrom}
@@ -65,7 +65,7 @@ module _ (s : State) (a : List Slot) (payload queues : List ℕ) (e : Injection)
 
 module _ (s : State) (a : List Slot) (payload queues : List ℕ) (e : Injection) (owner position : ℕ) (four : List Slot) (ids : List ℕ)
     (eight : length (s .nodes) ≡ 8) (lent : (length payload ≡ payloadBytes) × (length queues ≡ queueBytes))
-    (d : DrawnAt s a owner position four ids) (c : hasLegalCode e ≡ true) where
+    (d : DrawnAt s a owner position four ids) where
   abbrev m : Memory
   m = held s a payload queues
 
@@ -77,7 +77,7 @@ module _ (s : State) (a : List Slot) (payload queues : List ℕ) (e : Injection)
 
   -- the room test is the model's
   room : roomForEach (owedAt (injectionOf e) (pendingAt m owner position) m) m 0 (s .count) ≡ roomFrom e (s .nodes) owner size 0 (s .count)
-  room = rw (winner-slot d) (room-is s a payload queues e owner position sized (d .drawn .valid) c (pending-at d) ids (d .drawn .named))
+  room = rw (winner-slot d) (room-is s a payload queues e owner position sized (d .drawn .valid) (pending-at d) ids (d .drawn .named))
 
   abbrev answered : Ended
   answered = ended (arbitrateIn m (injectionOf e) (wins (pendingAt m owner position)))
@@ -121,5 +121,5 @@ module _ (s : State) (a : List Slot) (payload queues : List ℕ) (e : Injection)
         q,
         winner-slot d,
         d .drawn .block,
-        after-is s a payload queues e owner position sized (d .drawn .valid) c (pending-at d) ids (d .drawn .named) (rw (winner-slot d) at r),
+        after-is s a payload queues e owner position sized (d .drawn .valid) (pending-at d) ids (d .drawn .named) (rw (winner-slot d) at r),
       )

@@ -17,8 +17,7 @@ use Rattle.bus_state.specs.declared.State.{State}
 use Rattle.bus_state.specs.declared.NodeState.{NodeState}
 use Rattle.arbitration.specs.declared.Injection.{Injection}
 use Rattle.scan.specs.Winner.{entryOf}
-use Rattle.arbitration.specs.Injections.{hasLegalCode}
-use Rattle.arbitration.specs.Owed.{Writable, Tellable, PendingAt, discarded, newsTo, noticesBut, owedTo, owedLength, roomFrom}
+use Rattle.arbitration.specs.Owed.{Tellable, PendingAt, discarded, newsTo, noticesBut, owedTo, owedLength, roomFrom, isOff}
 use Rattle.arbitration.proofs.Lengths.{owed-length-is}
 
 module _ (e : Injection) (nodes : List NodeState) (owner size : ℕ) where
@@ -60,16 +59,16 @@ module _ (e : Injection) (nodes : List NodeState) (owner size : ℕ) where
 
 -- and of the bytes that it is owed
 pub owed-fits : {s : State} {owner position : ℕ} {ids : List ℕ} (e : Injection) (op : Operation) (bytes : List ℕ) (size : ℕ)
-    → Tellable s ids → PendingAt s owner position → Writable op → hasLegalCode e ≡ true → length bytes ≡ dataLength op
-    → size ≡ lengthOf op → roomFrom e (s .nodes) owner size 0 (s .count) ≡ true → (j : ℕ) → j < s .count
+    → Tellable s ids → PendingAt s owner position → length bytes ≡ dataLength op → size ≡ lengthOf op
+    → roomFrom e (s .nodes) owner size 0 (s .count) ≡ true → (j : ℕ) → j < s .count
     → let d : NodeState = nodeState s j in
     d .fill
     + (length (newsTo e j owner (isOff d) op bytes) + length (noticesBut ids (4 * owner + position) (4 * j) (discarded d)))
     ≤ 4_096
 unfolding owedTo
-owed-fits {s} {owner} {position} {ids} e op bytes size t w f c b n r j h =
+owed-fits {s} {owner} {position} {ids} e op bytes size t w b n r j h =
     let d = nodeState s j in
     let news = newsTo e j owner (isOff d) op bytes in
     let told = noticesBut ids (4 * owner + position) (4 * j) (discarded d) in
-    let k = owed-length-is e op bytes size t w f c b n j h in
+    let k = owed-length-is e op bytes size t w b n j h in
     omega (arith, k, length-append news told, room-at e (s .nodes) owner size (s .count) r j h)

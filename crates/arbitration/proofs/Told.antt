@@ -6,21 +6,21 @@ use mathlib.Core.List.{List, [], _++_}
 use Prim.Native.Nat.{ℕ, suc, _-_, _≤_, _<_}
 use native.Mathlib.Omega.{arith}
 use lib.Dec.{eqb}
-use lib.ListN.{length, getD}
+use lib.ListN.{getD}
 use borrow.Author.Tests.{eq-eqb, ne-eqb, le-leb}
 use Rattle.operation.specs.Format.{encode}
 use Rattle.operation.specs.Kinds.{idOf}
 use Rattle.operation.specs.Rules.{allAfter, rules, legal, oneOf, errorCodes, errorFlags}
 use Rattle.operation.specs.declared.Operation.{Operation}
 use Rattle.operation.specs.declared.Operation.the-variants.{Confirm, ArbitrationLost, BusError}
-use Rattle.operation.proofs.Sizes.{encode-length}
 use Rattle.operation.proofs.Tests.{false-is-true, one-small}
+use Rattle.bus_model.proofs.Lawful.{one-small}
 use Rattle.arbitration.specs.declared.Injection.{Injection}
 use Rattle.arbitration.specs.declared.Injection.the-variants.{NoError, Injected}
 use Rattle.arbitration.specs.Injections.{hasLegalCode}
 use Rattle.arbitration.specs.Owed.{own, flagAt, newsTo, noticeOf, noticesBut}
 
--- ---- the operations meet their rules, and their lengths
+-- ---- the operations meet their rules
 
 pub confirm-lawful : (id : ℕ) → id ≤ 536_870_911 → legal (Confirm id) ≡ true
 unfolding legal rules allAfter
@@ -44,16 +44,6 @@ pub error-lawful : (id code : ℕ) (detects sends : Bool) → id ≤ 536_870_911
 unfolding legal rules allAfter
 error-lawful id code detects sends h c =
     rw (le-leb id 536_870_911 h, c, flag-legal detects, le-leb (own sends) 1 (own-bit sends))
-
-pub confirm-length : (id : ℕ) → id ≤ 536_870_911 → length (encode (Confirm id) []) ≡ 12
-confirm-length id h = encode-length (Confirm id) [] (confirm-lawful id h)
-
-pub lost-length : (id : ℕ) → id ≤ 536_870_911 → length (encode (ArbitrationLost id) []) ≡ 12
-lost-length id h = encode-length (ArbitrationLost id) [] (lost-lawful id h)
-
-pub error-length : (id code : ℕ) (detects sends : Bool) → id ≤ 536_870_911 → oneOf code errorCodes ≡ true
-    → length (encode (BusError id code (cond detects 1 2) (own sends)) []) ≡ 15
-error-length id code detects sends h c = encode-length (BusError id code (cond detects 1 2) (own sends)) [] (error-lawful id code detects sends h c)
 
 -- a code of the table is small
 pub code-small : (code : ℕ) → oneOf code errorCodes ≡ true → code ≤ 6

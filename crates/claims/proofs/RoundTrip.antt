@@ -2,7 +2,7 @@
 -- Assumes nothing.
 use Prim.Native.Nat.{ℕ, _+_, _-_, _≤_, _<_}
 use mathlib.Core.Path.{_≡_, refl, sym, ap, _∙_, subst}
-use mathlib.Core.Bool.{Bool, true, false, cond, not, _&&_}
+use mathlib.Core.Bool.{Bool, true, false, cond, not, _&&_, _||_}
 use mathlib.Core.List.{List, [], _++_}
 use native.Mathlib.Nat.{zero-add}
 use native.Mathlib.Omega.{arith}
@@ -17,7 +17,7 @@ use Rattle.operation.specs.Rules.{legal}
 use Rattle.operation.specs.declared.Operation.{Operation}
 use Rattle.operation.proofs.Sizes.{encode-length}
 use Rattle.operation.proofs.Tests.{both}
-use Rattle.decoder.specs.Front.{Shape, none, holds, shapeOf, kindOf, statedLength, front, decode, judge, verdict}
+use Rattle.decoder.specs.Front.{Shape, none, holds, shapeOf, kindOf, tooShort, kindOutside, lengthNotOfTable, statedLength, front, decode, judge, verdict}
 use Rattle.decoder.specs.Reading.{cursorAt, placed, readAt, dataAt}
 use Rattle.decoder.specs.declared.Front.{Front}
 use Rattle.decoder.specs.declared.Front.the-variants.{End, Fault, Found}
@@ -129,8 +129,8 @@ judge-numbered : (n : ℕ) (h : Shape) → Numbered (judge n h)
 unfolding judge verdict
 judge-numbered n none = omega arith
 judge-numbered n (holds least op) =
-    either (leb least n && eqb n (lengthOf op)) (cond (legal op) (Found op n) (Fault 5 n)) (Fault 4 n)
-    (either (legal op) (Found op n) (Fault 5 n) tt (omega arith)) (omega arith)
+    either (tooShort n least || kindOutside op || lengthNotOfTable n op) (Fault 4 n) (cond (legal op) (Found op n) (Fault 5 n)) (omega arith)
+    (either (legal op) (Found op n) (Fault 5 n) tt (omega arith))
 
 front-numbered : (s : List ℕ) → Numbered (front s)
 unfolding front decode
@@ -234,7 +234,7 @@ outcome-past : (op : Operation) (payload buffer : List ℕ) (w : Written) → wr
 unfolding over
 outcome-past op payload buffer (Done n) e =
     let a = accepted e in
-    let size : length (encode op payload) ≡ n = encode-length op payload (a .lawful) ∙ omega (arith, a .size, a .whole) in
+    let size : length (encode op payload) ≡ n = encode-length op payload ∙ omega (arith, a .size, a .whole) in
     subst (λ (k : ℕ). drop k (over buffer 0 (encode op payload)) ≡ drop k buffer) size
     (drop-append-seam (encode op payload) (drop (0 + length (encode op payload)) buffer)
     ∙ ap (λ (k : ℕ). drop k buffer) (zero-add (length (encode op payload))))

@@ -35,9 +35,9 @@ use Rattle.codec.specs.Claims.{ReadsAs, WrittenReads, WritesAs, ReadWrit
 -- ---- theorem 1
 
 -- an operation's bytes past its header are its data
-encoded-data : (op : Operation) (payload : List ℕ) → legal op ≡ true → drop (headLength op) (encode op payload) ≡ payload
+encoded-data : (op : Operation) (payload : List ℕ) → drop (headLength op) (encode op payload) ≡ payload
 unfolding encode
-encoded-data op payload l = drop-at (header op) payload (headLength op) (header-length op l)
+encoded-data op payload = drop-at (header op) payload (headLength op) (header-length op)
 
 -- encoded bytes are read, wherever they stand
 reads-as : (op : Operation) (payload before rest : List ℕ) → TypedOperation op → legal op ≡ true → length payload ≡ dataLength op → dataLength op < 65536
@@ -48,14 +48,14 @@ reads-as op payload before rest ty l w s =
     let here : drop (length before) (before ++ (encode op payload ++ rest)) ≡ encode op payload ++ rest = drop-append-seam before (t ++ rest) in
     let f : front (drop (length before) (before ++ (encode op payload ++ rest))) ≡ Found op (lengthOf op) =
     ap front here ∙ encoded op payload rest ty l w s in
-    let size : length (encode op payload) ≡ lengthOf op = encode-length op payload l ∙ ap (λ (k : ℕ). headLength op + k) w in
+    let size : length (encode op payload) ≡ lengthOf op = encode-length op payload ∙ ap (λ (k : ℕ). headLength op + k) w in
     record {
       operation = ap (placed (length before)) f;
       payloads =
           data-found (before ++ (t ++ rest)) (length before) op (lengthOf op) f
           ∙ ap (λ (x : List ℕ). drop (headLength op) (take (lengthOf op) x)) here
           ∙ ap (drop (headLength op)) (take-at t rest (lengthOf op) size)
-          ∙ encoded-data op payload l;
+          ∙ encoded-data op payload;
     }
 
 pub written-reads : WrittenReads

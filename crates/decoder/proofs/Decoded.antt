@@ -3,7 +3,7 @@
 -- Assumes nothing.
 use mathlib.Core.Path.{_≡_, refl, sym, ap, _∙_, subst}
 use mathlib.Core.Bool.{Bool, true, false, cond}
-use mathlib.Core.List.{List, [], _∷_, _++_}
+use mathlib.Core.List.{List, _∷_, _++_}
 use Prim.Native.Nat.{ℕ, suc, _+_, _^_, _≤_, _<_}
 use native.Mathlib.Nat.{add-zero, mod-eq-of-lt}
 use native.Mathlib.Omega.{arith}
@@ -12,15 +12,13 @@ use lib.ListN.{length, getD, take, drop}
 use lib.Seq.{drop-cons}
 use borrow.Author.Tests.{eqb-true}
 use Rattle.operation.specs.Number.{littleEndian, number, numberAt, Bytes}
-use Rattle.operation.specs.Format.{codeOf, configurationLength, headLength, lengthOf, fieldsOf, header, encode, TypedOperation}
-use Rattle.operation.specs.Rules.{legal}
+use Rattle.operation.specs.Format.{codeOf, headLength, lengthOf, fieldsOf, header, encode, TypedOperation}
 use Rattle.operation.specs.declared.Operation.{Operation}
-use Rattle.operation.specs.declared.Operation.the-variants.{FormatError, CanTransmit, FdTransmit, XlTransmit, Confirm, ArbitrationLost, BusError, Configuration, Status, Wakeup}
+use Rattle.operation.specs.declared.Operation.the-variants.{FormatError}
 use Rattle.operation.proofs.Numbers.{number-here, number-small, byte-small, drop-bytes}
-use Rattle.operation.proofs.Sizes.{baud-length}
-use Rattle.decoder.specs.Front.{Kind, formatError, can, fd, xl, confirm, arbitrationLost, busError, configuration, status, wakeup, unknown, kindOf, Shape, none, holds, settingOf, shapeOf, decode}
+use Rattle.decoder.specs.Front.{Kind, formatError, can, fd, xl, confirm, arbitrationLost, busError, configuration, status, wakeup, unknown, kindOf, holds, shapeOf, decode}
 use Rattle.decoder.specs.declared.Front.the-variants.{Found}
-use Rattle.decoder.proofs.Found.{Judged, judged}
+use Rattle.decoder.proofs.Found.{judged}
 
 -- ---- the code of a kind
 
@@ -93,67 +91,50 @@ module _ (t : List ℕ) (u : Bytes t) where
   module _ (stated : numberAt 4 t 4 ≡ length t) where
     -- an operation whose shape the bytes have
     of-shape : (n : ℕ) (o : Operation) (least : ℕ) (op : Operation) → holds n o ≡ holds least op → least ≤ length t → length t ≡ lengthOf op
-        → legal op ≡ true → (n ≤ length t → numberAt 4 t 4 ≡ lengthOf o → legal o ≡ true → Back o) → Back op
-    of-shape n o least op q h s l f =
+        → (n ≤ length t → numberAt 4 t 4 ≡ lengthOf o → Back o) → Back op
+    of-shape n o least op q h s f =
         let same : o ≡ op = cc in
         let m : n ≡ least = cc in
-        subst Back same (f (omega arith) (stated ∙ s ∙ sym (ap lengthOf same)) (ap legal same ∙ l))
+        subst Back same (f (omega arith) (stated ∙ s ∙ sym (ap lengthOf same)))
 
     -- what a Configuration carries, by whether its kind is 4
-    setting-then : (b : Bool) → eqb (getD t 8 0) 4 ≡ b → length t ≡ cond b 10 13
+    setting-then : (b : Bool) → length t ≡ cond b 10 13
         → cond b (littleEndian 1 (cond b (getD t 9 0) (numberAt 4 t 9))) (littleEndian 4 (cond b (getD t 9 0) (numberAt 4 t 9))) ++ drop (cond b 10 13) t
         ≡ drop 9 t
-    setting-then true e h = rw (mod-eq-of-lt (byte 9)) (byte-then 9 (omega arith) refl)
-    setting-then false e h = number-then 4 9 (omega arith) refl
+    setting-then true h = rw (mod-eq-of-lt (byte 9)) (byte-then 9 (omega arith) refl)
+    setting-then false h = number-then 4 9 (omega arith) refl
 
-    configuration-back : (b : Bool) → eqb (getD t 8 0) 4 ≡ b → let op : Operation = Configuration (getD t 8 0) (settingOf (getD t 8 0) t) in
-        numberAt 4 t 0 ≡ 0x40 → numberAt 4 t 4 ≡ lengthOf op → legal op ≡ true → Back op
-    configuration-back true e c n l =
-        let head : configurationLength (getD t 8 0) ≡ 10 = rw e in
-        let size : length t ≡ 10 = sym stated ∙ n ∙ add-zero (configurationLength (getD t 8 0)) ∙ head in
-        record {
-          typed = (byte 8, rw e (omega (arith, byte 9)));
-          same =
-              rebuilt (Configuration (getD t 8 0) (settingOf (getD t 8 0) t)) (omega arith) c n
-              (byte-then 8 (omega arith) (rw e (setting-then true e size)));
-        }
-    configuration-back false e c n l =
-        let head : configurationLength (getD t 8 0) ≡ 13 = baud-length (getD t 8 0) (settingOf (getD t 8 0) t) l e in
-        let size : length t ≡ 13 = sym stated ∙ n ∙ add-zero (configurationLength (getD t 8 0)) ∙ head in
-        record {
-          typed = (byte 8, rw e (small 4 9));
-          same =
-              rebuilt (Configuration (getD t 8 0) (settingOf (getD t 8 0) t)) (omega arith) c n
-              (byte-then 8 (omega arith) (rw (head, e) (setting-then false e size)));
-        }
+    setting-small : (b : Bool) → cond b (getD t 9 0) (numberAt 4 t 9) < 2 ^ 32
+    setting-small true = omega (arith, byte 9)
+    setting-small false = small 4 9
 
     -- by the kind that the bytes were taken for
     by-kind : (k : Kind) (least : ℕ) (op : Operation) → CodeIs k (numberAt 4 t 0) → shapeOf k t ≡ holds least op → least ≤ length t
-        → length t ≡ lengthOf op → legal op ≡ true → Back op
+        → length t ≡ lengthOf op → Back op
     unfolding shapeOf
-    by-kind formatError least op c q h s l =
-        of-shape 10 (FormatError (numberAt 2 t 8)) least op q h s l
-        (λ h n l. record { typed = small 2 8; same = rebuilt _ (omega arith) c n (number-then 2 8 h refl) })
-    by-kind can least op c q h s l =
-        of-shape 16 _ least op q h s l
-        (λ h n l. record {
+    by-kind formatError least op c q h s =
+        of-shape 10 (FormatError (numberAt 2 t 8)) least op q h s
+        (λ h n. record { typed = small 2 8; same = rebuilt _ (omega arith) c n (number-then 2 8 h refl) })
+    by-kind can least op c q h s =
+        of-shape 16 _ least op q h s
+        (λ h n. record {
           typed = (small 4 8, byte 12, byte 13, small 2 14);
           same =
               rebuilt _ (omega arith) c n
               (number-then 4 8 (omega arith) (byte-then 12 (omega arith) (byte-then 13 (omega arith) (number-then 2 14 h refl))));
         })
-    by-kind fd least op c q h s l =
-        of-shape 17 _ least op q h s l
-        (λ h n l. record {
+    by-kind fd least op c q h s =
+        of-shape 17 _ least op q h s
+        (λ h n. record {
           typed = (small 4 8, byte 12, byte 13, byte 14, small 2 15);
           same =
               rebuilt _ (omega arith) c n
               (number-then 4 8 (omega arith)
               (byte-then 12 (omega arith) (byte-then 13 (omega arith) (byte-then 14 (omega arith) (number-then 2 15 h refl)))));
         })
-    by-kind xl least op c q h s l =
-        of-shape 22 _ least op q h s l
-        (λ h n l. record {
+    by-kind xl least op c q h s =
+        of-shape 22 _ least op q h s
+        (λ h n. record {
           typed = (small 4 8, byte 12, byte 13, byte 14, byte 15, small 4 16, small 2 20);
           same =
               rebuilt _ (omega arith) c n
@@ -162,25 +143,30 @@ module _ (t : List ℕ) (u : Bytes t) where
               (byte-then 13 (omega arith)
               (byte-then 14 (omega arith) (byte-then 15 (omega arith) (number-then 4 16 (omega arith) (number-then 2 20 h refl)))))));
         })
-    by-kind confirm least op c q h s l =
-        of-shape 12 _ least op q h s l (λ h n l. record { typed = small 4 8; same = rebuilt _ (omega arith) c n (number-then 4 8 h refl) })
-    by-kind arbitrationLost least op c q h s l =
-        of-shape 12 _ least op q h s l (λ h n l. record { typed = small 4 8; same = rebuilt _ (omega arith) c n (number-then 4 8 h refl) })
-    by-kind busError least op c q h s l =
-        of-shape 15 _ least op q h s l
-        (λ h n l. record {
+    by-kind confirm least op c q h s =
+        of-shape 12 _ least op q h s (λ h n. record { typed = small 4 8; same = rebuilt _ (omega arith) c n (number-then 4 8 h refl) })
+    by-kind arbitrationLost least op c q h s =
+        of-shape 12 _ least op q h s (λ h n. record { typed = small 4 8; same = rebuilt _ (omega arith) c n (number-then 4 8 h refl) })
+    by-kind busError least op c q h s =
+        of-shape 15 _ least op q h s
+        (λ h n. record {
           typed = (small 4 8, byte 12, byte 13, byte 14);
           same =
               rebuilt _ (omega arith) c n
               (number-then 4 8 (omega arith) (byte-then 12 (omega arith) (byte-then 13 (omega arith) (byte-then 14 h refl))));
         })
-    by-kind configuration least op c q h s l =
-        of-shape 9 _ least op q h s l (λ h n l. configuration-back (eqb (getD t 8 0) 4) refl c n l)
-    by-kind status least op c q h s l =
-        of-shape 9 _ least op q h s l (λ h n l. record { typed = byte 8; same = rebuilt _ (omega arith) c n (byte-then 8 h refl) })
-    by-kind wakeup least op c q h s l =
-        of-shape 8 _ least op q h s l (λ h n l. record { typed = tt; same = rebuilt _ h c n refl })
-    by-kind unknown least op c q h s l = let z : _≡_ {A = ℕ} 0 1 = cc in absurd (omega arith)
+    by-kind configuration least op c q h s =
+        of-shape 9 _ least op q h s
+        (λ h n. let four = eqb (getD t 8 0) 4 in
+        record {
+          typed = (byte 8, setting-small four);
+          same = rebuilt _ (omega arith) c n (byte-then 8 h (setting-then four (sym stated ∙ n ∙ add-zero _)));
+        })
+    by-kind status least op c q h s =
+        of-shape 9 _ least op q h s (λ h n. record { typed = byte 8; same = rebuilt _ (omega arith) c n (byte-then 8 h refl) })
+    by-kind wakeup least op c q h s =
+        of-shape 8 _ least op q h s (λ h n. record { typed = tt; same = rebuilt _ h c n refl })
+    by-kind unknown least op c q h s = let z : _≡_ {A = ℕ} 0 1 = cc in absurd (omega arith)
 
     -- the bytes of an operation that was found are its bytes
     pub decoded : (op : Operation) (n : ℕ) → decode t ≡ Found op n → Back op
@@ -188,4 +174,4 @@ module _ (t : List ℕ) (u : Bytes t) where
     decoded op n e =
         let k = kindOf (numberAt 4 t 0) in
         let j = judged (length t) (shapeOf k t) op n e in
-        by-kind k (j .least) op (code-of-kind (numberAt 4 t 0) k refl) (j .shape) (j .enough) (j .sized) (j .lawful)
+        by-kind k (j .least) op (code-of-kind (numberAt 4 t 0) k refl) (j .shape) (j .enough) (j .sized)

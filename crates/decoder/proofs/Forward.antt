@@ -15,11 +15,11 @@ use Rattle.decoder.specs.Reading.{placed, readAt}
 use Rattle.decoder.specs.declared.Front.{Front}
 use Rattle.decoder.specs.declared.Front.the-variants.{End, Fault, Found}
 
-verdict-taken : (sized lawful : Bool) (op : Operation) (n : ℕ) → taken (verdict sized lawful op n) ≡ n
+verdict-taken : (wrongLength lawful : Bool) (op : Operation) (n : ℕ) → taken (verdict wrongLength lawful op n) ≡ n
 unfolding verdict
-verdict-taken true true op n = refl
-verdict-taken true false op n = refl
-verdict-taken false lawful op n = refl
+verdict-taken true lawful op n = refl
+verdict-taken false true op n = refl
+verdict-taken false false op n = refl
 
 -- an operation takes up all its bytes, faulty or not
 pub judge-taken : (n : ℕ) (h : Shape) → taken (judge n h) ≡ n

@@ -1,20 +1,20 @@
 -- Laws of an operation that is found: what its bytes passed, and that it is found wherever these bytes stand.
 -- Assumes nothing.
 use mathlib.Core.Path.{_≡_, refl, sym, ap, _∙_, subst}
-use mathlib.Core.Bool.{Bool, true, false, cond, _&&_}
+use mathlib.Core.Bool.{Bool, true, false, cond, not, _||_}
 use mathlib.Core.List.{List, [], _∷_, _++_}
 use Prim.Native.Nat.{ℕ, _≤_}
 use native.Mathlib.Omega.{arith}
-use lib.Dec.{leb, ltb, eqb}
+use lib.Dec.{ltb, eqb}
 use lib.ListN.{length, take, drop, length-append, take-append-drop}
 use lib.Seq.{length-take-le, take-at}
-use borrow.Author.Tests.{leb-true, eqb-true, ltb-false, ne-eqb, le-ltb}
+use borrow.Author.Tests.{eqb-true, ltb-false, ne-eqb, le-ltb}
 use Rattle.operation.specs.Number.{numberAt}
 use Rattle.operation.specs.Format.{lengthOf}
 use Rattle.operation.specs.Rules.{legal}
 use Rattle.operation.specs.declared.Operation.{Operation}
 use Rattle.operation.proofs.Numbers.{number-prefix}
-use Rattle.decoder.specs.Front.{Kind, Shape, none, holds, kindOf, shapeOf, verdict, judge, decode, statedLength, front}
+use Rattle.decoder.specs.Front.{Kind, Shape, none, holds, kindOf, shapeOf, kindOutside, verdict, judge, decode, statedLength, front}
 use Rattle.decoder.specs.declared.Front.{Front}
 use Rattle.decoder.specs.declared.Front.the-variants.{End, Fault, Found}
 
@@ -30,21 +30,22 @@ pub record Judged (n : ℕ) (h : Shape) (op : Operation) (m : ℕ) : Type 0 wher
 pub judged : (n : ℕ) (h : Shape) (op : Operation) (m : ℕ) → judge n h ≡ Found op m → Judged n h op m
 unfolding judge verdict
 judged n none op m e = let z : _≡_ {A = ℕ} 0 1 = cc in absurd (omega arith)
-judged n (holds least o) op m e = go (leb least n) refl (eqb n (lengthOf o)) refl (legal o) refl e
+judged n (holds least o) op m e = go (ltb n least) refl (kindOutside o) (eqb n (lengthOf o)) refl (legal o) refl e
   where
-    go : (a : Bool) → leb least n ≡ a → (b : Bool) → eqb n (lengthOf o) ≡ b → (d : Bool) → legal o ≡ d
-        → cond (a && b) (cond d (Found o n) (Fault 5 n)) (Fault 4 n) ≡ Found op m → Judged n (holds least o) op m
-    go false qa b qb d qd e = let z : _≡_ {A = ℕ} 0 1 = cc in absurd (omega arith)
-    go true qa false qb d qd e = let z : _≡_ {A = ℕ} 0 1 = cc in absurd (omega arith)
-    go true qa true qb false qd e = let z : _≡_ {A = ℕ} 0 1 = cc in absurd (omega arith)
-    go true qa true qb true qd e =
+    go : (a : Bool) → ltb n least ≡ a → (k b : Bool) → eqb n (lengthOf o) ≡ b → (d : Bool) → legal o ≡ d
+        → cond (a || k || not b) (Fault 4 n) (cond d (Found o n) (Fault 5 n)) ≡ Found op m → Judged n (holds least o) op m
+    go true qa k b qb d qd e = let z : _≡_ {A = ℕ} 0 1 = cc in absurd (omega arith)
+    go false qa true b qb d qd e = let z : _≡_ {A = ℕ} 0 1 = cc in absurd (omega arith)
+    go false qa false false qb d qd e = let z : _≡_ {A = ℕ} 0 1 = cc in absurd (omega arith)
+    go false qa false true qb false qd e = let z : _≡_ {A = ℕ} 0 1 = cc in absurd (omega arith)
+    go false qa false true qb true qd e =
         let x : o ≡ op = cc in
         let y : n ≡ m = cc in
         record {
           all = sym y;
           least = least;
           shape = ap (holds least) x;
-          enough = leb-true least n qa;
+          enough = ltb-false n least qa;
           sized = eqb-true n (lengthOf o) qb ∙ ap lengthOf x;
           lawful = sym (ap legal x) ∙ qd;
         }

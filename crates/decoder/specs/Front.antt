@@ -1,8 +1,8 @@
 -- What stands at the front of some bytes: an operation, or a fault (01, "Operations as bytes", faults 1 to 5).
 -- Assumes nothing.
 use Prim.Native.Nat.{ℕ}
-use mathlib.Core.List.{List, [], _∷_}
-use mathlib.Core.Bool.{Bool, true, false, cond, _&&_}
+use mathlib.Core.List.{List}
+use mathlib.Core.Bool.{Bool, false, cond, not, _&&_, _||_}
 use lib.Dec.{leb, ltb, eqb}
 use lib.ListN.{length, getD, take}
 use Rattle.operation.specs.Number.{numberAt}
@@ -57,14 +57,39 @@ shapeOf status t = holds 9 (Status (getD t 8 0))
 shapeOf wakeup t = holds 8 Wakeup
 shapeOf unknown t = none
 
+-- ---- fault 4, in 01's words
+
+-- "an operation too short to hold DL, n or kind"
+abbrev pub tooShort : ℕ → ℕ → Bool
+tooShort n least = ltb n least
+
+-- "a kind outside 1 to 4", of a Configuration
+abbrev pub kindOutside : Operation → Bool
+kindOutside (FormatError n) = false
+kindOutside (CanTransmit id ide rtr dl) = false
+kindOutside (FdTransmit id ide brs esi dl) = false
+kindOutside (XlTransmit id ide sec sdt vcid af dl) = false
+kindOutside (Confirm id) = false
+kindOutside (ArbitrationLost id) = false
+kindOutside (BusError id code flag sender) = false
+kindOutside (Configuration kind value) = not (leb 1 kind && leb kind 4)
+kindOutside (Status value) = false
+kindOutside Wakeup = false
+
+-- "length not that of the table for the code and its DL, n or kind"
+abbrev pub lengthNotOfTable : ℕ → Operation → Bool
+lengthNotOfTable n op = not (eqb n (lengthOf op))
+
+-- ---- what the bytes of one operation are
+
 -- by the tests of length and content: fault 4, fault 5, or the operation; n bytes are taken up
 unfoldable pub verdict : Bool → Bool → Operation → ℕ → Front
-verdict sized lawful op n = cond sized (cond lawful (Found op n) (Fault 5 n)) (Fault 4 n)
+verdict wrongLength lawful op n = cond wrongLength (Fault 4 n) (cond lawful (Found op n) (Fault 5 n))
 
 -- an operation of n bytes: fault 3, 4 or 5, or the operation
 unfoldable pub judge : ℕ → Shape → Front
 judge n none = Fault 3 n
-judge n (holds least op) = verdict (leb least n && eqb n (lengthOf op)) (legal op) op n
+judge n (holds least op) = verdict (tooShort n least || kindOutside op || lengthNotOfTable n op) (legal op) op n
 
 -- the length field
 abbrev pub statedLength : List ℕ → ℕ

@@ -1,5 +1,6 @@
 // Reading operations from a buffer: what stands at a position, and where the data of an operation lie.
 ghost use mathlib.Core.Path.{_≡_};
+ghost use mathlib.Core.Bool.{not};
 ghost use Prim.Native.Nat.{_+_, _^_, _≤_, _<_};
 ghost use lib.ListN.{length, getD};
 ghost use Rattle.operation.specs.Number.{numberAt};
@@ -62,7 +63,7 @@ pub fn code_of(t: &[u8]) -> u32
 
 // Fault 4 before fault 5.
 fn give_verdict(sized: bool, lawful: bool, op: Operation, size: usize) -> Front
-    ensures { λ r. ⌜ r ≡ verdict sized lawful op size ⌝ }
+    ensures { λ r. ⌜ r ≡ verdict (not sized) lawful op size ⌝ }
 {
     if sized {
         if lawful {
@@ -240,8 +241,9 @@ pub fn read_configuration(t: &[u8]) -> Front
     let value = setting_at(t, kind);
     let expected = operation::configuration_length(kind);
     let lawful = operation::configuration_is_legal(kind, value);
+    let known = (operation::CAN_BAUDRATE <= kind) & (kind <= operation::ARBITRATION_LOST_BEHAVIOR);
     give_verdict(
-        size == expected,
+        known & (size == expected),
         lawful,
         Operation::Configuration { kind, value },
         size,

@@ -87,7 +87,7 @@ pub written : (op : Operation) (payload l : List ℕ) {l₁ l₂ : List ℕ} {n 
     → l₁ ≡ over l 0 (header op) → l₂ ≡ over l₁ (headLength op) payload → l₂ ≡ writtenOf op payload l
 unfolding writtenOf encode
 written op payload l e p q =
-    rw (e, q, p, ← header-length op (accepted e .lawful)) (behind l (header op) payload)
+    rw (e, q, p, ← header-length op) (behind l (header op) payload)
 
 -- the header alone is the operation, written, where it has no data
 pub written-bare : (op : Operation) (payload l : List ℕ) {l₁ : List ℕ} {n : ℕ} → writeOutcome op (length payload) (length l) ≡ Done n
@@ -115,5 +115,5 @@ pub written-bytes : (op : Operation) (payload l : List ℕ) {n : ℕ} → writeO
 unfolding writtenOf over
 written-bytes op payload l {n} e =
     let a = accepted e in
-    let size : length (encode op payload) ≡ n = encode-length op payload (a .lawful) ∙ omega (arith, a .size, a .whole) in
+    let size : length (encode op payload) ≡ n = encode-length op payload ∙ omega (arith, a .size, a .whole) in
     rw e (take-at (encode op payload) (drop (0 + length (encode op payload)) l) n size)

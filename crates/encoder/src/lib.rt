@@ -6,7 +6,7 @@ ghost use mathlib.Core.Bool.{true, false};
 ghost use lib.Dec.{eqb};
 ghost use lib.ListN.{length};
 ghost use Rattle.operation.specs.Number.{littleEndian};
-ghost use Rattle.operation.specs.Format.{configurationLength, headLength, lengthOf, header, encode};
+ghost use Rattle.operation.specs.Format.{headLength, lengthOf, header, encode};
 ghost use Rattle.operation.specs.Rules.{legal};
 ghost use Rattle.encoder.specs.Writing.{writtenNumber, decision, writeOutcome, writtenOf};
 ghost use Rattle.buffers.specs.Parts.{over};
@@ -160,7 +160,7 @@ fn put_behaviour(buffer: &mut [u8], value: u32)
 // A Configuration that carries a baud rate.
 fn put_baud_rate(buffer: &mut [u8], kind: u8, value: u32)
     requires { ⌜ 13 ≤ length (now buffer) ⌝ }
-    requires { ⌜ (eqb kind 4 ≡ false) × (configurationLength kind ≡ 13) ⌝ }
+    requires { ⌜ eqb kind 4 ≡ false ⌝ }
     ensures { λ _. ⌜ now (buffer .exit) ≡ over (now (buffer .entry)) 0 (header (Operation.Configuration kind value)) ⌝ }
 {
     put_start(buffer, 0x40, 13);

@@ -1,28 +1,23 @@
 -- Laws of an operation's length: the header's bytes are as many as the table says, and few; the data of a Transmit are at most 2,048.
 -- Assumes nothing.
 use mathlib.Core.Path.{_≡_, refl, _∙_}
-use mathlib.Core.Bool.{Bool, true, false, cond, _&&_, _||_}
+use mathlib.Core.Bool.{Bool, true, false, cond, _||_}
 use mathlib.Core.List.{List, [], _∷_}
 use Prim.Native.Nat.{ℕ, suc, _+_, _≤_}
 use native.Mathlib.Omega.{arith}
-use lib.Dec.{leb, eqb, lit≤}
+use lib.Dec.{eqb, lit≤}
 use lib.ListN.{length, length-append}
-use borrow.Author.Tests.{leb-true, eqb-false, le-leb}
 use Rattle.operation.specs.Number.{littleEndian}
-use Rattle.operation.specs.Format.{configurationLength, headLength, dataLength, fieldsOf, header, encode}
+use Rattle.operation.specs.Format.{headLength, dataLength, fieldsOf, header, encode}
 use Rattle.operation.specs.Kinds.{isTransmit}
 use Rattle.operation.specs.Rules.{oneOf, fdLength, rules, legal}
 use Rattle.operation.specs.declared.Operation.{Operation}
 use Rattle.operation.specs.declared.Operation.the-variants.{FormatError, CanTransmit, FdTransmit, XlTransmit, Confirm, ArbitrationLost, BusError, Configuration, Status, Wakeup}
 use Rattle.operation.proofs.Tests.{false-is-true, both, passed, one-small}
 
-configuration-small : (kind : ℕ) → configurationLength kind ≤ 22
-configuration-small kind = go (eqb kind 4) (leb 1 kind && leb kind 3)
-  where
-    go : (a b : Bool) → cond a 10 (cond b 13 0) ≤ 22
-    go true b = lit≤ tt
-    go false true = lit≤ tt
-    go false false = lit≤ tt
+configuration-small : (b : Bool) → cond b 10 13 ≤ 22
+configuration-small true = lit≤ tt
+configuration-small false = lit≤ tt
 
 pub head-small : (op : Operation) → headLength op ≤ 22
 head-small (FormatError n) = lit≤ tt
@@ -32,45 +27,37 @@ head-small (XlTransmit id ide sec sdt vcid af dl) = lit≤ tt
 head-small (Confirm id) = lit≤ tt
 head-small (ArbitrationLost id) = lit≤ tt
 head-small (BusError id code flag sender) = lit≤ tt
-head-small (Configuration kind value) = configuration-small kind
+head-small (Configuration kind value) = configuration-small (eqb kind 4)
 head-small (Status status) = lit≤ tt
 head-small Wakeup = lit≤ tt
 
--- a Configuration that meets its rules and carries no behaviour carries a baud rate
-pub baud-length : (kind value : ℕ) → legal (Configuration kind value) ≡ true → eqb kind 4 ≡ false → configurationLength kind ≡ 13
-unfolding legal rules
-baud-length kind value l e =
-    let low : 1 ≤ kind = leb-true 1 kind (passed _ l 0) in
-    let high : kind ≤ 4 = leb-true kind 4 (passed _ l 1) in
-    let other : kind ≡ 4 → ⊥ = eqb-false kind 4 e in
-    rw (e, le-leb 1 kind low, le-leb kind 3 (omega arith))
+-- what a Configuration carries takes up the rest of it
+setting-length : (value : ℕ) (b : Bool) → 8 + suc (length (cond b (littleEndian 1 value) (littleEndian 4 value))) ≡ cond b 10 13
+setting-length value true = refl
+setting-length value false = refl
 
-fields-length : (op : Operation) → legal op ≡ true → 8 + length (fieldsOf op) ≡ headLength op
-fields-length (FormatError n) l = refl
-fields-length (CanTransmit id ide rtr dl) l = refl
-fields-length (FdTransmit id ide brs esi dl) l = refl
-fields-length (XlTransmit id ide sec sdt vcid af dl) l = refl
-fields-length (Confirm id) l = refl
-fields-length (ArbitrationLost id) l = refl
-fields-length (BusError id code flag sender) l = refl
-fields-length (Configuration kind value) l = go (eqb kind 4) refl
-  where
-    go : (b : Bool) → eqb kind 4 ≡ b → 8 + suc (length (cond (eqb kind 4) (littleEndian 1 value) (littleEndian 4 value))) ≡ configurationLength kind
-    go true e = rw e
-    go false e = rw (baud-length kind value l e, e)
-fields-length (Status status) l = refl
-fields-length Wakeup l = refl
+fields-length : (op : Operation) → 8 + length (fieldsOf op) ≡ headLength op
+fields-length (FormatError n) = refl
+fields-length (CanTransmit id ide rtr dl) = refl
+fields-length (FdTransmit id ide brs esi dl) = refl
+fields-length (XlTransmit id ide sec sdt vcid af dl) = refl
+fields-length (Confirm id) = refl
+fields-length (ArbitrationLost id) = refl
+fields-length (BusError id code flag sender) = refl
+fields-length (Configuration kind value) = setting-length value (eqb kind 4)
+fields-length (Status status) = refl
+fields-length Wakeup = refl
 
-pub header-length : (op : Operation) → legal op ≡ true → length (header op) ≡ headLength op
+pub header-length : (op : Operation) → length (header op) ≡ headLength op
 unfolding header
-header-length op l = omega (arith, fields-length op l)
+header-length op = omega (arith, fields-length op)
 
-pub encode-length : (op : Operation) (payload : List ℕ) → legal op ≡ true → length (encode op payload) ≡ headLength op + length payload
+pub encode-length : (op : Operation) (payload : List ℕ) → length (encode op payload) ≡ headLength op + length payload
 unfolding encode
-encode-length op payload l = length-append (header op) payload ∙ rw (header-length op l)
+encode-length op payload = length-append (header op) payload ∙ rw (header-length op)
 
-pub head-least : (op : Operation) → legal op ≡ true → 8 ≤ headLength op
-head-least op l = omega (arith, fields-length op l)
+pub head-least : (op : Operation) → 8 ≤ headLength op
+head-least op = omega (arith, fields-length op)
 
 -- ---- of the data
 

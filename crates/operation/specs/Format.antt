@@ -2,8 +2,8 @@
 -- Assumes nothing.
 use Prim.Native.Nat.{ℕ, _+_, _^_, _<_}
 use mathlib.Core.List.{List, [], _∷_, _++_}
-use mathlib.Core.Bool.{cond, _&&_}
-use lib.Dec.{leb, eqb}
+use mathlib.Core.Bool.{cond}
+use lib.Dec.{eqb}
 use Rattle.operation.specs.Number.{littleEndian}
 use Rattle.operation.specs.declared.Operation.{Operation}
 use Rattle.operation.specs.declared.Operation.the-variants.{FormatError, CanTransmit, FdTransmit, XlTransmit, Confirm, ArbitrationLost, BusError, Configuration, Status, Wakeup}
@@ -21,9 +21,9 @@ codeOf (Configuration kind value) = 0x40
 codeOf (Status status) = 0x41
 codeOf Wakeup = 0x42
 
--- the length of a Configuration, by its kind: a baud rate, or a behaviour; no other kind has a length
+-- the length of a Configuration, by its kind: a behaviour, or a baud rate
 abbrev pub configurationLength : ℕ → ℕ
-configurationLength kind = cond (eqb kind 4) 10 (cond (leb 1 kind && leb kind 3) 13 0)
+configurationLength kind = cond (eqb kind 4) 10 13
 
 -- column "Length", without DL or n
 abbrev pub headLength : Operation → ℕ

@@ -150,17 +150,15 @@ pub fn data_length(op: Operation) -> u16
     }
 }
 
-// The length of a Configuration; 0 for a kind that there is not.
+// The length of a Configuration: a behaviour, or a baud rate.
 pub fn configuration_length(kind: u8) -> usize
     ensures { λ r. ⌜ (r ≡ configurationLength kind) × (r ≤ 13) ⌝ }
 {
     if kind == ARBITRATION_LOST_BEHAVIOR {
-        return 10;
+        10
+    } else {
+        13
     }
-    if (kind == CAN_BAUDRATE) | (kind == CAN_FD_BAUDRATE) | (kind == CAN_XL_BAUDRATE) {
-        return 13;
-    }
-    0
 }
 
 // The length of an operation without its data.

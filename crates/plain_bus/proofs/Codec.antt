@@ -23,7 +23,7 @@ use Rattle.plain_bus.specs.Register.{noneAbove}
 pub reads-written : (op : Operation) (payload : List ℕ) → TypedOperation op → legal op ≡ true → length payload ≡ dataLength op
     → dataLength op < 65_536 → ReadsWhole op (encode op payload)
 reads-written op payload ty l p small =
-    let size : length (encode op payload) ≡ lengthOf op = encode-length op payload l ∙ ap (λ (n : ℕ). headLength op + n) p in
+    let size : length (encode op payload) ≡ lengthOf op = encode-length op payload ∙ ap (λ (n : ℕ). headLength op + n) p in
     ap front (sym (append-nil (encode op payload))) ∙ encoded op payload [] ty l p small ∙ ap (Found op) (sym size)
 
 pub reads-confirm : (id : ℕ) → id ≤ maxExtendedId → ReadsWhole (Confirm id) (encode (Confirm id) [])

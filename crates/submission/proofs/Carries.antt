@@ -14,8 +14,8 @@ use Rattle.operation.specs.Format.{headLength, header, encode}
 use Rattle.operation.specs.declared.Operation.{Operation}
 use Rattle.operation.specs.declared.Operation.the-variants.{FormatError, Wakeup}
 use Rattle.operation.proofs.Sizes.{encode-length}
-use Rattle.encoder.proofs.Answers.{format-error-lawful}
 use Rattle.slots.specs.Blocks.{slotOf, setBlock}
+use Rattle.slots.specs.Slots.{slotOf, setBlock}
 use Rattle.slots.specs.declared.Slot.{Slot}
 use Rattle.slots.proofs.Blocks.{set-in-block}
 use Rattle.plain_bus.specs.Held.{busOff}
@@ -45,7 +45,7 @@ quiet d Wake = isOff d
 
 -- a Format Error has ten bytes besides those that it answers
 pub answer-length : (bytes : List ℕ) → length (formatError bytes) ≡ answerLength (length bytes)
-answer-length bytes = encode-length (FormatError (length bytes)) bytes (sym (format-error-lawful (length bytes)))
+answer-length bytes = encode-length (FormatError (length bytes)) bytes
 
 -- ---- a Wakeup, at one node and at all
 

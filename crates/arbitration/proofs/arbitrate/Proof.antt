@@ -44,7 +44,7 @@ returns c =
     let x : c .before .before .before .head-length .result + c .before .before .data-length .result ≡ lengthOf (heldAt (a .t2) (a .position)) = rw (c .before .before .before .head-length .ensures .0, c .before .before .data-length .ensures, c .before .before .before .before .held-in .ensures) in
     let eight = sym (length-map (a .s .nodes) _) ∙ s .good .0 .1 .1 .1 .1 .0 .1 .0 .1 in
     let q = rw x at (sym (c .before .has-room .ensures) ∙ not-true _ (c .if1 .taken)) in
-    (λ l d. block-kept-ends QueueFull (a .s) l (4 * a .owner) (now (a .payload)) (now (a .queues)) (d .drawn .block) ∙ full-ended (a .s) l (now (a .payload)) (now (a .queues)) (a .e) (a .owner) (a .position) (a .t2) (a .ids) eight (p .1) d (p .0) q, refl)
+    (λ l d. block-kept-ends QueueFull (a .s) l (4 * a .owner) (now (a .payload)) (now (a .queues)) (d .drawn .block) ∙ full-ended (a .s) l (now (a .payload)) (now (a .queues)) (a .e) (a .owner) (a .position) (a .t2) (a .ids) eight (p .1) d q, refl)
 
 mul-t24 : tie.Need-mul-t24
 mul-t24 c = let t = place-small (c .before .before .before .before .before .before .before .before .before .before .pre .0 .1) in omega (arith, t .0)
@@ -57,7 +57,7 @@ returns-2 c =
     let x : c .before .before .before .before .before .head-length .result + c .before .before .before .before .data-length .result ≡ lengthOf (heldAt (a .t2) (a .position)) = rw (c .before .before .before .before .before .head-length .ensures .0, c .before .before .before .before .data-length .ensures, c .before .before .before .before .before .before .held-in .ensures) in
     let eight = sym (length-map (a .s .nodes) _) ∙ s .good .0 .1 .1 .1 .1 .0 .1 .0 .1 in
     let q = rw x at (sym (c .before .before .before .has-room .ensures) ∙ not-false _ (c .before .before .if1 .left)) in
-    (λ l d. block-kept-ends RoundsUsedUp (a .s) l (4 * a .owner) (now (a .payload)) (now (a .queues)) (d .drawn .block) ∙ used-up-ended (a .s) l (now (a .payload)) (now (a .queues)) (a .e) (a .owner) (a .position) (a .t2) (a .ids) eight (p .1) d (p .0) q (c .if2 .taken), refl)
+    (λ l d. block-kept-ends RoundsUsedUp (a .s) l (4 * a .owner) (now (a .payload)) (now (a .queues)) (d .drawn .block) ∙ used-up-ended (a .s) l (now (a .payload)) (now (a .queues)) (a .e) (a .owner) (a .position) (a .t2) (a .ids) eight (p .1) d q (c .if2 .taken), refl)
 
 carry-out-requires : tie.Need-carry-out-requires
 carry-out-requires c κs =
@@ -77,7 +77,7 @@ returns-3 c =
     let eight = sym (length-map (a .s .nodes) _) ∙ s .good .0 .1 .1 .1 .1 .0 .1 .0 .1 in
     let q = rw x at (sym (c .before .before .before .before .before .before .before .before .before .before .has-room .ensures) ∙ not-false _ (c .before .before .before .before .before .before .before .before .before .if1 .left)) in
     let e = c .before .before .before .before .carry-out .ensures in
-    (λ l d. e .0 l d ∙ carried-ended (a .s) l (now (a .payload)) (now (a .queues)) (a .e) (a .owner) (a .position) (a .t2) (a .ids) eight (p .1) d (p .0) q (c .before .before .before .before .before .before .before .if2 .left), e .1)
+    (λ l d. e .0 l d ∙ carried-ended (a .s) l (now (a .payload)) (now (a .queues)) (a .e) (a .owner) (a .position) (a .t2) (a .ids) eight (p .1) d q (c .before .before .before .before .before .before .before .if2 .left), e .1)
 
 pub arbitrate-spec : {M : Type 1} → statement M
 arbitrate-spec =

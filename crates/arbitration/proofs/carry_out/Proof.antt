@@ -109,7 +109,7 @@ returns c =
     let g = c .before .before .before .before .before .before .before .before .before .before .before .before .tell-all .ensures in
     let own = c .before .before .before .before .before .before .before .before .before .before .before .before .before .before .before .before .before .before .before .entry .ensures in
     let eight = sym (length-map (a .s .nodes) _) ∙ s .good .0 .1 .1 .1 .1 .0 .1 .0 .1 in
-    (λ l d. done-ended (a .s) l (now (a .payload)) (now (a .queues)) (a .e) (a .owner) (a .position) (a .t2) (a .ids) eight (p .1 .1) d (p .0 .1) (rw x at (p .1 .0 .1)) (c .before .before .before .id-of .ensures) (c .before .before .is-errored .ensures) (rw x at (g .0)) (rw own at (c .before .before .before .before .block-without .ensures)) (rw own at (c .before .before .before .before .before .before .before .move-data .ensures)) (rw k at (g .1)), refl)
+    (λ l d. done-ended (a .s) l (now (a .payload)) (now (a .queues)) (a .e) (a .owner) (a .position) (a .t2) (a .ids) eight (p .1 .1) d (rw x at (p .1 .0 .1)) (c .before .before .before .id-of .ensures) (c .before .before .is-errored .ensures) (rw x at (g .0)) (rw own at (c .before .before .before .before .block-without .ensures)) (rw own at (c .before .before .before .before .before .before .before .move-data .ensures)) (rw k at (g .1)), refl)
 
 pub carry-out-spec : {M : Type 1} → statement M
 carry-out-spec =

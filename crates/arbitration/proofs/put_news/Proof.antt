@@ -1,13 +1,17 @@
 -- By the injection, then by whether the node sends, is Bus-Off, or neither.
 use Prim.Native.Nat.{_≤_}
 use Rattle.arbitration.proofs.Bytes.{byte-own, over-none}
-use Rattle.arbitration.proofs.Told.{confirm-lawful, error-lawful, confirm-length, error-length, legal-code, code-small, news-own, news-none, news-other, news-silent, news-error}
+use Rattle.arbitration.proofs.Told.{confirm-lawful, error-lawful, legal-code, code-small, news-own, news-none, news-other, news-silent, news-error}
 use Rattle.operation.proofs.Sizes.{encode-length}
 use Rattle.operation.specs.Kinds.{idOf}
+use Rattle.operation.specs.declared.Operation.the-variants.{Confirm, BusError}
+use Rattle.arbitration.specs.Owed.{own}
 use Rattle.slots.specs.Slots.{contentOf, heldIn}
 use borrow.Author.Needs.{needs}
 use denote.Ref.{now}
 use lib.Dec.{eqb}
+use mathlib.Core.Bool.{cond}
+use mathlib.Core.List.{[]}
 use mathlib.Core.Path.{sym}
 use native.Mathlib.Omega.{arith}
 use Rattle.arbitration.proofs.put_news.Statement.{statement}
@@ -19,7 +23,7 @@ put-confirm-requires c κs =
     let a = s .args in
     let i : c .before .id-of .result ≤ 536_870_911 = rw (c .before .id-of .ensures) (s .pre .0 .id) in
     let n = news-own (a .j) (a .owner) (a .off) (heldIn (contentOf (a .winner))) (now (a .bytes)) (c .before .before .before .enum-told .given .1) (c .before .before .if1 .taken) in
-    let l = confirm-length (idOf (heldIn (contentOf (a .winner)))) (s .pre .0 .id) in
+    let l = encode-length (Confirm (idOf (heldIn (contentOf (a .winner))))) [] in
     (confirm-lawful _ i, omega (arith, rw (n, l) at (s .pre .1 .1)))
 
 returns : tie.Need-returns
@@ -40,7 +44,7 @@ put-operation-requires c κs =
     let s = c .before .before .before .before .before .before .before .before in
     let a = s .args in
     let n = news-other (a .j) (a .owner) (a .off) (heldIn (contentOf (a .winner))) (now (a .bytes)) (c .before .before .before .before .enum-told .given .1) (c .before .before .before .if1 .left) (c .before .before .if2 .left) in
-    let l = encode-length (heldIn (contentOf (a .winner))) (now (a .bytes)) (s .pre .0 .lawful) in
+    let l = encode-length (heldIn (contentOf (a .winner))) (now (a .bytes)) in
     rw (c .before .held-in .ensures) ((s .pre .0 .lawful, s .pre .1 .0 .1, s .pre .0 .short), omega (arith, rw (n, l, s .pre .1 .0 .1) at (s .pre .1 .1)))
 
 returns-3 : tie.Need-returns-3
@@ -62,7 +66,7 @@ put-bus-error-requires c κs =
     let k = legal-code (g .1) (s .pre .1 .0 .0) in
     let i : c .before .before .id-of2 .result ≤ 536_870_911 = rw (c .before .before .id-of2 .ensures) (s .pre .0 .id) in
     let n = news-error (a .j) (a .owner) (a .off) (heldIn (contentOf (a .winner))) (now (a .bytes)) (g .1) (c .before .before .before .if3 .left) in
-    let l = error-length (idOf (heldIn (contentOf (a .winner)))) _ (eqb (a .j) (g .0 .1 .0)) (eqb (a .j) (a .owner)) (s .pre .0 .id) k in
+    let l = encode-length (BusError (idOf (heldIn (contentOf (a .winner)))) (g .0 .0) (cond (eqb (a .j) (g .0 .1 .0)) 1 2) (own (eqb (a .j) (a .owner)))) [] in
     rw (c .before .flag-at .ensures, byte-own) (error-lawful (c .before .before .id-of2 .result) (g .0 .0) (eqb (a .j) (g .0 .1 .0)) (eqb (a .j) (a .owner)) i k, omega (arith, rw (n, l) at (s .pre .1 .1)))
 
 returns-4 : tie.Need-returns-4

@@ -19,14 +19,14 @@ add-result : tie.Need-add-result
 add-result c =
     let s = c .before .before .before .before .before .before .before .before .before in
     let a = s .args in
-    let k = news-length-is (a .e) (a .j) (a .owner) (isOff (a .d)) (heldIn (contentOf (a .winner))) (now (a .bytes)) (a .size) (s .pre .1 .0) (s .pre .1 .1 .0 .0) (s .pre .1 .1 .0 .1) (s .pre .1 .1 .0 .2) in
+    let k = news-length-is (a .e) (a .j) (a .owner) (isOff (a .d)) (heldIn (contentOf (a .winner))) (now (a .bytes)) (a .size) (s .pre .1 .1 .0 .1) (s .pre .1 .1 .0 .2) in
     rw (c .news-length .ensures, c .before .before .before .before .before .before .is-off .ensures, ← k) (omega (arith, s .pre .1 .1 .1))
 
 returns : tie.Need-returns
 returns c =
     let s = c .before .before .before .before .before .before .before .before .before in
     let a = s .args in
-    let k = news-length-is (a .e) (a .j) (a .owner) (isOff (a .d)) (heldIn (contentOf (a .winner))) (now (a .bytes)) (a .size) (s .pre .1 .0) (s .pre .1 .1 .0 .0) (s .pre .1 .1 .0 .1) (s .pre .1 .1 .0 .2) in
+    let k = news-length-is (a .e) (a .j) (a .owner) (isOff (a .d)) (heldIn (contentOf (a .winner))) (now (a .bytes)) (a .size) (s .pre .1 .1 .0 .1) (s .pre .1 .1 .0 .2) in
     let o = c .before .before .before .before .before .before .is-off .ensures in
     (ap (λ (i : ℕ). 4_096 * a .j + a .d .fill + i) (c .news-length .ensures ∙ rw o (sym k)), rw o at (c .before .before .before .put-news .ensures))
 

@@ -85,7 +85,7 @@ tell-requires c κs =
     let l = c .before .before .before .loop in
     let g = s .pre .1 .1 .0 in
     let r = s .pre .1 .1 .1 in
-    let k = owed-fits (a .e) (heldIn (contentOf (a .winner))) (now (a .bytes)) (a .size) (s .pre .0 .2) (s .pre .1 .0) (g .0) (s .pre .0 .1) (g .1) (g .2) (r .0) (l .j) (omega arith) in
+    let k = owed-fits (a .e) (heldIn (contentOf (a .winner))) (now (a .bytes)) (a .size) (s .pre .0 .2) (s .pre .1 .0) (g .1) (g .2) (r .0) (l .j) (omega arith) in
     rw (l .inv .5 (l .j) (omega arith)) (omega arith, (g .0, ((s .pre .0 .1, g .1, g .2), omega (arith, k, r .1, l .inv .4))))
 
 mul-p : tie.Need-mul-p Inv-loop2 μ-loop2 Inv-loop μ-loop
@@ -113,7 +113,7 @@ loop2-holds c =
     let r = s .pre .1 .1 .1 in
     let op = heldIn (contentOf (a .winner)) in
     let d = nodeState (a .s) (l .j) in
-    let k = owed-fits (a .e) op (now (a .bytes)) (a .size) (s .pre .0 .2) (s .pre .1 .0) (g .0) (s .pre .0 .1) (g .1) (g .2) (r .0) (l .j) (omega arith) in
+    let k = owed-fits (a .e) op (now (a .bytes)) (a .size) (s .pre .0 .2) (s .pre .1 .0) (g .1) (g .2) (r .0) (l .j) (omega arith) in
     let news = newsTo (a .e) (l .j) (a .owner) (isOff d) op (now (a .bytes)) in
     let few = s .pre .0 .2 .few (l .j) (omega arith) in
     let same = l .inv .5 (l .j) (omega arith) in
@@ -195,7 +195,7 @@ loop-again c =
     let r = s .pre .1 .1 .1 in
     let op = heldIn (contentOf (a .winner)) in
     let d = nodeState (a .s) (l .j) in
-    let k = owed-fits (a .e) op (now (a .bytes)) (a .size) (s .pre .0 .2) (s .pre .1 .0) (g .0) (s .pre .0 .1) (g .1) (g .2) (r .0) (l .j) u in
+    let k = owed-fits (a .e) op (now (a .bytes)) (a .size) (s .pre .0 .2) (s .pre .1 .0) (g .1) (g .2) (r .0) (l .j) u in
     let slot = 4 * a .owner + a .position in
     let news = newsTo (a .e) (l .j) (a .owner) (isOff d) op (now (a .bytes)) in
     let told = noticesBut (a .t7) slot (4 * l .j) (discarded d) in

@@ -16,7 +16,7 @@ returns c =
     let s1 = s2 .before .before .before .before in
     let s0 = s1 .before .before .before in
     let a = s0 .args in
-    rw (s3 .put4 .ensures, s2 .put1 .ensures, s1 .put-start .ensures, s0 .pre .1 .1, s0 .pre .1 .0)
+    rw (s3 .put4 .ensures, s2 .put1 .ensures, s1 .put-start .ensures, s0 .pre .1)
     (in-turn (now (a .buffer)) ((littleEndian 4 0x40 ++ littleEndian 4 13) ∷ (a .kind ∷ []) ∷ (littleEndian 4 (a .value)) ∷ []))
 
 pub put-baud-rate-spec : {M : Type 1} → statement M

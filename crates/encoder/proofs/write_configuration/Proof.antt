@@ -1,6 +1,5 @@
 -- The answer is decided first; an accepted write lays the header, a refused one nothing.
 use Rattle.encoder.proofs.Answers.{answers, accepted, written-bare, kept}
-use Rattle.operation.proofs.Sizes.{baud-length}
 use Rattle.operation.specs.declared.Operation.the-variants.{Configuration}
 use borrow.Author.Tests.{ne-eqb}
 use denote.Ref.{now}
@@ -33,8 +32,8 @@ put-baud-rate-requires c κs =
     let e = sym (answers (Configuration (a .kind) (a .value)) _ _ (d .before .before .configuration-is-legal .ensures) (rw (d .before .configuration-length .ensures .0) at (d .decide .ensures))) ∙ c .before .before .before .answer .given .1 in
     let w = accepted e in
     let q = ne-eqb _ _ (c .before .if1 .left) in
-    let n = baud-length _ _ (w .lawful) q in
-    (omega (arith, w .size, w .fits, n), (q, n))
+    let n = rw q at (w .size) in
+    (omega (arith, n, w .fits), q)
 
 returns-2 : tie.Need-returns-2
 returns-2 c =
