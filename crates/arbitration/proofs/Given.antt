@@ -15,9 +15,8 @@ use Rattle.bus_state.specs.Valid.{validState}
 use Rattle.bus_state.specs.declared.State.{State}
 use Rattle.scan.specs.declared.Winner.{Winner}
 use Rattle.scan.specs.declared.Winner.the-variants.{Nobody, First}
-use Rattle.scan.specs.Winner.{heldAt, bestIn}
+use Rattle.scan.specs.Winner.{heldAt, bestIn, ownerOf}
 use Rattle.arbitration.specs.Drawn.{Drawn, DrawnAt}
-use Rattle.scan.specs.Winner.{ownerOf}
 use Rattle.arbitration.specs.Owed.{Frames, Tellable, PendingAt}
 use Rattle.arbitration.proofs.Attached.{count-few, node-at}
 use Rattle.arbitration.proofs.Laid.{block-slot}

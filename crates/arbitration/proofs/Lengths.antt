@@ -18,7 +18,7 @@ use Rattle.bus_state.specs.declared.State.{State}
 use Rattle.bus_state.specs.declared.NodeState.{NodeState}
 use Rattle.arbitration.specs.declared.Injection.{Injection}
 use Rattle.arbitration.specs.declared.Injection.the-variants.{NoError, Injected}
-use Rattle.arbitration.specs.Owed.{toldCount, owedLength, discards, discarded, own, newsTo, noticesBut, owedTo, newsLength, Tellable, PendingAt, isOff}
+use Rattle.arbitration.specs.Owed.{toldCount, owedLength, discards, discarded, own, newsTo, noticesBut, owedTo, newsLength, Tellable, PendingAt}
 
 pub news-short : (e : Injection) (mine off : Bool) (size : ℕ) → size ≤ 2_070 → newsLength e mine off size ≤ 2_070
 news-short NoError true off size h = omega arith

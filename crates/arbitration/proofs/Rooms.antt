@@ -17,7 +17,7 @@ use Rattle.bus_state.specs.declared.State.{State}
 use Rattle.bus_state.specs.declared.NodeState.{NodeState}
 use Rattle.arbitration.specs.declared.Injection.{Injection}
 use Rattle.scan.specs.Winner.{entryOf}
-use Rattle.arbitration.specs.Owed.{Tellable, PendingAt, discarded, newsTo, noticesBut, owedTo, owedLength, roomFrom, isOff}
+use Rattle.arbitration.specs.Owed.{Tellable, PendingAt, discarded, newsTo, noticesBut, owedTo, owedLength, roomFrom}
 use Rattle.arbitration.proofs.Lengths.{owed-length-is}
 
 module _ (e : Injection) (nodes : List NodeState) (owner size : ℕ) where

@@ -14,7 +14,6 @@ use Rattle.operation.specs.Rules.{allAfter, rules, legal, oneOf, errorCodes, er
 use Rattle.operation.specs.declared.Operation.{Operation}
 use Rattle.operation.specs.declared.Operation.the-variants.{Confirm, ArbitrationLost, BusError}
 use Rattle.operation.proofs.Tests.{false-is-true, one-small}
-use Rattle.bus_model.proofs.Lawful.{one-small}
 use Rattle.arbitration.specs.declared.Injection.{Injection}
 use Rattle.arbitration.specs.declared.Injection.the-variants.{NoError, Injected}
 use Rattle.arbitration.specs.Injections.{hasLegalCode}

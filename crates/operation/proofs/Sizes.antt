@@ -5,8 +5,9 @@ use mathlib.Core.Bool.{Bool, true, false, cond, _||_}
 use mathlib.Core.List.{List, [], _∷_}
 use Prim.Native.Nat.{ℕ, suc, _+_, _≤_}
 use native.Mathlib.Omega.{arith}
-use lib.Dec.{eqb, lit≤}
+use lib.Dec.{leb, eqb, lit≤}
 use lib.ListN.{length, length-append}
+use borrow.Author.Tests.{leb-true}
 use Rattle.operation.specs.Number.{littleEndian}
 use Rattle.operation.specs.Format.{headLength, dataLength, fieldsOf, header, encode}
 use Rattle.operation.specs.Kinds.{isTransmit}

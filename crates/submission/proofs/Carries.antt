@@ -14,8 +14,7 @@ use Rattle.operation.specs.Format.{headLength, header, encode}
 use Rattle.operation.specs.declared.Operation.{Operation}
 use Rattle.operation.specs.declared.Operation.the-variants.{FormatError, Wakeup}
 use Rattle.operation.proofs.Sizes.{encode-length}
-use Rattle.slots.specs.Blocks.{slotOf, setBlock}
-use Rattle.slots.specs.Slots.{slotOf, setBlock}
+use Rattle.slots.specs.Blocks.{slotOf, setBlock, slotOf, setBlock}
 use Rattle.slots.specs.declared.Slot.{Slot}
 use Rattle.slots.proofs.Blocks.{set-in-block}
 use Rattle.plain_bus.specs.Held.{busOff}

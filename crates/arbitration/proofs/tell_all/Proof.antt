@@ -8,11 +8,10 @@ use Rattle.arbitration.proofs.Rooms.{room-at, owed-fits}
 use Rattle.arbitration.proofs.Settled.{entries-next, entries-end, queues-next, queues-end}
 use Rattle.arbitration.proofs.Told.{notices-next, notices-end}
 use Rattle.arbitration.specs.After.{entriesAfter, stateAfter, queuesAfter}
-use Rattle.bus_state.specs.Memory.{isOff}
+use Rattle.bus_state.specs.Memory.{isOff, nodeState, noNode}
 use Rattle.arbitration.specs.Owed.{discarded, newsTo, noticeOf, noticesBut, owedTo}
 use Rattle.buffers.proofs.Offsets.{length-over}
 use Rattle.buffers.specs.Parts.{over}
-use Rattle.bus_state.specs.Memory.{nodeState, noNode}
 use Rattle.operation.proofs.Sizes.{head-small}
 use Rattle.slots.specs.Slots.{contentOf, heldIn}
 use borrow.Author.Needs.{needs}
