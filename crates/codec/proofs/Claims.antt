@@ -1,10 +1,9 @@
 -- Theorems 1 to 3 proved, from what is encoded is found, what is found is encoded back, and each reading moves forward.
 -- Assumes nothing.
-use mathlib.Core.Path.{_≡_, refl, sym, ap, _∙_, subst}
+use mathlib.Core.Path.{_≡_, refl, sym, ap, _∙_}
 use mathlib.Core.Bool.{true}
-use mathlib.Core.List.{List, [], _∷_, _++_}
-use Prim.Native.Nat.{ℕ, _+_, _-_, _^_, _≤_, _<_}
-use native.Mathlib.Nat.{add-sub-cancel-left}
+use mathlib.Core.List.{List, _++_}
+use Prim.Native.Nat.{ℕ, _+_, _-_, _≤_, _<_}
 use native.Mathlib.Omega.{arith}
 use lib.ListN.{length, take, drop, length-drop, drop-of-length-le}
 use lib.Seq.{drop-append-seam, take-at, drop-at, length-take-le}
@@ -16,18 +15,17 @@ use Rattle.operation.specs.declared.Operation.the-variants.{FormatError, CanTra
 use Rattle.operation.proofs.Numbers.{take-bytes, drop-bytes}
 use Rattle.operation.proofs.Sizes.{header-length, encode-length}
 use Rattle.decoder.specs.Front.{front, taken}
-use Rattle.decoder.specs.Reading.{cursorAt, placed, readAt, dataAt}
+use Rattle.decoder.specs.Reading.{placed, readAt, dataAt}
 use Rattle.decoder.specs.declared.Front.{Front}
 use Rattle.decoder.specs.declared.Front.the-variants.{End, Fault, Found}
-use Rattle.decoder.specs.declared.Reading.{Reading}
-use Rattle.decoder.specs.declared.Reading.the-variants.{AtEnd, Faulty, Read}
 use Rattle.decoder.proofs.Decoded.{Back, decoded}
 use Rattle.decoder.proofs.Encoded.{encoded}
 use Rattle.decoder.proofs.Forward.{forward}
 use Rattle.decoder.proofs.Found.{found, stated-own}
 use Rattle.decoder.proofs.Payload.{data-found}
 use Rattle.decoder.proofs.Streams.{front-nil, items-joined}
-use Rattle.encoder.specs.Writing.{writeOutcome, writtenOf}
+use Rattle.decoder.proofs.Items.{next-item}
+use Rattle.encoder.specs.Writing.{writeOutcome}
 use Rattle.encoder.specs.declared.Written.the-variants.{Done}
 use Rattle.encoder.proofs.Answers.{accepted, accepts, written-bytes}
 use Rattle.codec.specs.Claims.{ReadsAs, WrittenReads, WritesAs, ReadWrites, after, ReadsThrough}
@@ -78,20 +76,6 @@ data-typed (Configuration kind value) ty = omega arith
 data-typed (Status status) ty = omega arith
 data-typed Wakeup ty = omega arith
 
--- what stands at the front where an operation was read
-record Came (f : Front) (at next : ℕ) (op : Operation) : Type 0 where
-  size : ℕ
-  front : f ≡ Found op size
-  place : next ≡ at + size
-
-came : (f : Front) (at next : ℕ) (op : Operation) → placed at f ≡ Read op (cursorAt next) → Came f at next op
-came End at next op e = let z : _≡_ {A = ℕ} 0 1 = cc in absurd (omega arith)
-came (Fault number n) at next op e = let z : _≡_ {A = ℕ} 0 1 = cc in absurd (omega arith)
-came (Found o n) at next op e =
-    let same : o ≡ op = cc in
-    let goes : cursorAt (at + n) ≡ cursorAt next = cc in
-    record { size = n; front = ap (λ (x : Operation). Found x n) same; place = sym (ap (λ c. c .at) goes) }
-
 -- an operation that was found writes back to its bytes
 writes-as : (s : List ℕ) (at : ℕ) (op : Operation) (n : ℕ) → Bytes s → front (drop at s) ≡ Found op n
     → TypedOperation op × ((buffer : List ℕ) → n ≤ length buffer → WritesAs op (dataAt s op (at + n)) buffer (take n (drop at s)) n)
@@ -116,10 +100,10 @@ writes-as s at op n u e =
     )
 
 pub read-writes : ReadWrites
-unfolding readAt
 read-writes s at next op u e =
-    let c = came (front (drop at s)) at next op e in
-    rw (c .place, add-sub-cancel-left) (writes-as s at op (c .size) u (c .front))
+    let n = next-item s at e in
+    let p : at + (next - at) ≡ next = omega (arith, n .further) in
+    rw p at (writes-as s at op (next - at) u (n .stands))
 
 -- ---- theorem 3
 

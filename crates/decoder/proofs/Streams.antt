@@ -18,10 +18,24 @@ pub front-nil : front [] ≡ End
 unfolding front
 front-nil = refl
 
--- the end is reached only where nothing is left
+-- what stands at the front takes up at least a byte and no more than there are; the end, only where nothing is left
+abbrev pub Onward : List ℕ → Front → Type 0
+Onward s End = length s ≡ 0
+Onward s (Fault number n) = (1 ≤ n) × (n ≤ length s)
+Onward s (Found op n) = (1 ≤ n) × (n ≤ length s)
+
+pub onward : (s : List ℕ) {f : Front} → front s ≡ f → Onward s f
+onward [] e = rw (sym e, front-nil)
+onward (b ∷ s) {f} e = go f (rw e at (forward (b ∷ s) (omega arith)))
+  where
+    go : (f : Front) → (1 ≤ taken f) × (taken f ≤ length (b ∷ s)) → Onward (b ∷ s) f
+    go End m = absurd (omega arith)
+    go (Fault number n) m = m
+    go (Found op n) m = m
+
 pub end-empty : (s : List ℕ) → front s ≡ End → s ≡ []
 end-empty [] e = refl
-end-empty (b ∷ s) e = let m = rw e at (forward (b ∷ s) (omega arith)) in absurd (omega arith)
+end-empty (b ∷ s) e = absurd (omega (arith, onward (b ∷ s) e))
 
 -- what is left after the front is shorter
 closer : (s : List ℕ) (f : Front) (k : ℕ) → front s ≡ f → length s ≤ suc k → length (drop (taken f) s) ≤ k

@@ -2,21 +2,16 @@
 -- Assumes nothing.
 use mathlib.Core.Path.{_≡_, refl, sym, ap, _∙_}
 use mathlib.Core.List.{List, [], _∷_}
-use Prim.Native.Nat.{ℕ, _+_, _-_, _≤_, _<_}
+use Prim.Native.Nat.{ℕ}
 use native.Mathlib.Omega.{arith}
-use lib.ListN.{length, take, drop, length-drop}
-use lib.Seq.{drop-drop}
+use lib.ListN.{drop}
 use Rattle.operation.specs.declared.Operation.{Operation}
 use Rattle.operation.specs.declared.Operation.the-variants.{FormatError, CanTransmit, FdTransmit, XlTransmit, Confirm, ArbitrationLost, BusError, Configuration, Status, Wakeup}
-use Rattle.decoder.specs.Front.{front, taken}
-use Rattle.decoder.specs.Reading.{placed, readAt}
+use Rattle.decoder.specs.Reading.{readAt}
 use Rattle.decoder.specs.Stream.{Item, operation, fault, itemsOf}
-use Rattle.decoder.specs.declared.Front.{Front}
-use Rattle.decoder.specs.declared.Front.the-variants.{End, Fault, Found}
 use Rattle.decoder.specs.declared.Reading.{Reading}
 use Rattle.decoder.specs.declared.Reading.the-variants.{AtEnd, Faulty, Read}
-use Rattle.decoder.proofs.Forward.{forward}
-use Rattle.decoder.proofs.Streams.{front-nil, unroll}
+use Rattle.decoder.proofs.Items.{ItemsBy, next-item}
 use Rattle.plain_bus.specs.Refusal.{RegisterRefusal, registerFull, registerDiffers}
 use Rattle.plain_bus.specs.Register.{Register, Update, updated, rejected, updates, enterItem, readItem}
 use Rattle.open_frames.specs.Record.{openIn}
@@ -31,35 +26,6 @@ use denote.Enum.Declared.{tagOf}
 use types.Run.{OneOf}
 use mathlib.Core.Logic.{⊎-elim}
 
--- a reading that is not at the end leaves less to read
-abbrev pub Nearer : List ℕ → ℕ → Reading → Type 0
-Nearer s at AtEnd = Unit {0}
-Nearer s at (Faulty number next) = length s - next .at < length s - at
-Nearer s at (Read op next) = length s - next .at < length s - at
-
-pub nearer : (s : List ℕ) (at : ℕ) {x : Reading} → readAt s at ≡ x → Nearer s at x
-unfolding readAt
-nearer s at e = rw e at (go (front (drop at s)) (ahead (drop at s)))
-  where
-    Ahead : List ℕ → Front → Type 0
-    Ahead l End = Unit {0}
-    Ahead l (Fault number n) = (1 ≤ n) × (n ≤ length l)
-    Ahead l (Found op n) = (1 ≤ n) × (n ≤ length l)
-
-    some : (l : List ℕ) (f : Front) → (1 ≤ taken f) × (taken f ≤ length l) → Ahead l f
-    some l End m = tt
-    some l (Fault number n) m = m
-    some l (Found op n) m = m
-
-    ahead : (l : List ℕ) → Ahead l (front l)
-    ahead [] = rw front-nil tt
-    ahead (b ∷ l) = some (b ∷ l) (front (b ∷ l)) (forward (b ∷ l) (omega arith))
-
-    go : (f : Front) → Ahead (drop at s) f → Nearer s at (placed at f)
-    go End m = tt
-    go (Fault number n) m = omega (arith, length-drop at s)
-    go (Found op n) m = omega (arith, length-drop at s)
-
 -- the steps from a position on, by what is read there
 module _ (step : Register → Item → Update) where
   abbrev pub onward : List ℕ → Register → Reading → Update
@@ -71,17 +37,13 @@ module _ (step : Register → Item → Update) where
       → ((r : Register) (op : Operation) (bytes : List ℕ) → step r (operation op bytes) ≡ step r (operation op []))
       → (s : List ℕ) (at : ℕ) (r : Register) {x : Reading} → readAt s at ≡ x
       → updates step (itemsOf (drop at s)) (updated r) ≡ onward s r x
-  unfolding readAt updates
-  turn faults operations s at r e = go (front (drop at s)) refl ∙ ap (onward s r) e
+  unfolding updates
+  turn faults operations s at r {x} e = go x (next-item s at e)
     where
-      go : (f : Front) → front (drop at s) ≡ f → updates step (itemsOf (drop at s)) (updated r) ≡ onward s r (placed at f)
-      go End q = rw (unroll (drop at s) q)
-      go (Fault number n) q =
-          rw (unroll (drop at s) q, drop-drop n at s)
-          (ap (updates step (itemsOf (drop (at + n) s))) (faults r number (take n (drop at s))))
-      go (Found op n) q =
-          rw (unroll (drop at s) q, drop-drop n at s)
-          (ap (updates step (itemsOf (drop (at + n) s))) (operations r op (take n (drop at s))))
+      go : (x : Reading) → ItemsBy s at x → updates step (itemsOf (drop at s)) (updated r) ≡ onward s r x
+      go AtEnd p = rw (p .1)
+      go (Faulty number next) p = rw (p .items) (ap (updates step (itemsOf (drop (next .at) s))) (faults r number _))
+      go (Read op next) p = rw (p .items) (ap (updates step (itemsOf (drop (next .at) s))) (operations r op _))
 
   stays : (is : List Item) (x : RegisterRefusal) → rejected x ≡ updates step is (rejected x)
   unfolding updates

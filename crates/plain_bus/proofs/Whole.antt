@@ -20,16 +20,10 @@ use Rattle.operation.specs.Kinds.{idOf}
 use Rattle.plain_bus.specs.Closing.{closes}
 use Rattle.plain_bus.proofs.ValidBus.{ReadsWhole, noFault, Whole}
 use Rattle.plain_bus.specs.Session.{closingIds}
-use Rattle.decoder.proofs.Forward.{forward}
 use Rattle.decoder.proofs.Found.{found, found-prefix}
-use Rattle.decoder.proofs.Streams.{front-nil, end-empty, unroll}
+use Rattle.decoder.proofs.Streams.{front-nil, onward, end-empty, unroll}
 
 -- ---- induction along the reading
-
--- a fault takes up at least a byte
-fault-moves : {number n : ℕ} (s : List ℕ) → front s ≡ Fault number n → 1 ≤ n
-fault-moves [] e = let z : _≡_ {A = ℕ} 0 1 = cc front-nil in absurd (omega arith)
-fault-moves (b ∷ s) e = rw e at (forward (b ∷ s) (omega arith)) .0
 
 module _ (P : List ℕ → Type 0) (none : P [])
     (faulty : (number n : ℕ) (s : List ℕ) → front s ≡ Fault number n → P (drop n s) → P s)
@@ -41,8 +35,8 @@ module _ (P : List ℕ → Type 0) (none : P [])
     where
       go : (f : Front) → front s ≡ f → ((n : ℕ) → 1 ≤ n → P (drop n s)) → P s
       go End e r = subst P (sym (end-empty s e)) none
-      go (Fault number n) e r = faulty number n s e (r n (fault-moves s e))
-      go (Found op n) e r = finds op n s e (r n (omega (arith, found e .least)))
+      go (Fault number n) e r = faulty number n s e (r n (onward s e .0))
+      go (Found op n) e r = finds op n s e (r n (onward s e .0))
 
   pub along : (s : List ℕ) → P s
   along s = up-to (length s) s (le-refl (length s))

@@ -2,30 +2,26 @@
 -- Assumes nothing.
 use mathlib.Core.Path.{_≡_, refl, sym, ap, _∙_, subst}
 use mathlib.Core.Bool.{Bool, true, false, cond}
-use mathlib.Core.List.{List, [], _∷_}
+use mathlib.Core.List.{List}
 use Prim.Native.Nat.{ℕ, _+_, _-_, _≤_, _<_}
 use native.Mathlib.Omega.{arith}
-use lib.Dec.{ltb, eqb}
+use lib.Dec.{eqb}
 use lib.ListN.{length, take, drop, length-drop}
-use lib.Seq.{drop-drop, length-take-le}
-use borrow.Author.Tests.{eqb-false, ltb-true, ltb-false}
+use lib.Seq.{length-take-le}
+use borrow.Author.Tests.{eqb-false}
 use Rattle.operation.specs.Format.{headLength}
 use Rattle.operation.specs.Rules.{legal}
 use Rattle.operation.specs.Kinds.{isTransmit}
 use Rattle.operation.specs.declared.Operation.{Operation}
 use Rattle.operation.specs.declared.Operation.the-variants.{FormatError, CanTransmit, FdTransmit, XlTransmit, Confirm, ArbitrationLost, BusError, Configuration, Status, Wakeup}
 use Rattle.operation.proofs.Sizes.{transmit-short}
-use Rattle.decoder.specs.Front.{front, taken}
-use Rattle.decoder.specs.Reading.{cursorAt, placed, readAt, dataAt}
+use Rattle.decoder.specs.Front.{front}
+use Rattle.decoder.specs.Reading.{dataAt}
 use Rattle.decoder.specs.Stream.{operation, fault}
-use Rattle.decoder.specs.declared.Cursor.{Cursor}
-use Rattle.decoder.specs.declared.Front.{Front}
-use Rattle.decoder.specs.declared.Front.the-variants.{End, Fault, Found}
-use Rattle.decoder.specs.declared.Reading.the-variants.{AtEnd, Faulty, Read}
-use Rattle.decoder.proofs.Forward.{forward}
+use Rattle.decoder.specs.declared.Front.the-variants.{Fault, Found}
 use Rattle.decoder.proofs.Found.{found}
 use Rattle.decoder.proofs.Payload.{data-found}
-use Rattle.decoder.proofs.Streams.{front-nil, unroll}
+use Rattle.decoder.proofs.Items.{Spans}
 use Rattle.plain_bus.specs.Submit.{unanswered}
 use Rattle.submission.specs.Effects.{operationEffect, faultEffect, SmallRate, DataFit, Taken, NextIs}
 use Rattle.submission.specs.declared.Effect.the-variants.{Nothing, Transmit, Answer, SetRate, SetBehaviour}
@@ -33,88 +29,6 @@ use Rattle.submission.specs.declared.Step.{Step}
 use Rattle.submission.specs.declared.Next.{Next}
 use Rattle.submission.specs.declared.Next.the-variants as next
 use Rattle.submission.proofs.Settings.{rate-kind}
-
-pub drop-all : (at : ℕ) (s : List ℕ) → length s ≤ at → drop at s ≡ []
-drop-all at s h = empty (drop at s) (rw length-drop (omega arith))
-  where
-    empty : (l : List ℕ) → length l ≡ 0 → l ≡ []
-    empty [] e = refl
-    empty (x ∷ l) e = absurd (omega arith)
-
--- ---- what was read is what stands at the front of the rest
-
-pub read-fault : (s : List ℕ) (at number : ℕ) (next : Cursor) → readAt s at ≡ Faulty number next
-    → front (drop at s) ≡ Fault number (next .at - at)
-unfolding readAt
-read-fault s at number next = go (front (drop at s))
-  where
-    go : (f : Front) → placed at f ≡ Faulty number next → f ≡ Fault number (next .at - at)
-    go End e = let z : _≡_ {A = ℕ} 0 1 = cc in absurd (omega arith)
-    go (Found op n) e = let z : _≡_ {A = ℕ} 0 1 = cc in absurd (omega arith)
-    go (Fault m n) e =
-        let a : m ≡ number = cc in
-        let b : cursorAt (at + n) ≡ next = cc in
-        let d : at + n ≡ next .at = ap (λ (x : Cursor). x .at) b in
-        let q : n ≡ next .at - at = omega arith in
-        rw (a, q)
-
-pub read-found : (s : List ℕ) (at : ℕ) (op : Operation) (next : Cursor) → readAt s at ≡ Read op next
-    → front (drop at s) ≡ Found op (next .at - at)
-unfolding readAt
-read-found s at op next = go (front (drop at s))
-  where
-    go : (f : Front) → placed at f ≡ Read op next → f ≡ Found op (next .at - at)
-    go End e = let z : _≡_ {A = ℕ} 0 1 = cc in absurd (omega arith)
-    go (Fault m n) e = let z : _≡_ {A = ℕ} 0 1 = cc in absurd (omega arith)
-    go (Found o n) e =
-        let a : o ≡ op = cc in
-        let b : cursorAt (at + n) ≡ next = cc in
-        let d : at + n ≡ next .at = ap (λ (x : Cursor). x .at) b in
-        let q : n ≡ next .at - at = omega arith in
-        rw (a, q)
-
--- before the end there is something
-not-end : (s : List ℕ) (at : ℕ) → at < length s → readAt s at ≡ AtEnd → ⊥
-unfolding readAt
-not-end s at h = go (front (drop at s)) refl
-  where
-    go : (f : Front) → front (drop at s) ≡ f → placed at f ≡ AtEnd → ⊥
-    go End q e =
-        let l : length (drop at s) ≡ length s - at = length-drop at s in
-        let m = rw q at (forward (drop at s) (omega arith)) in
-        omega arith
-    go (Fault m n) q e = let z : _≡_ {A = ℕ} 0 1 = cc in omega arith
-    go (Found o n) q e = let z : _≡_ {A = ℕ} 0 1 = cc in omega arith
-
-pub at-end : (s : List ℕ) (at : ℕ) → readAt s at ≡ AtEnd → length s ≤ at
-at-end s at e = go (ltb at (length s)) refl
-  where
-    go : (t : Bool) → ltb at (length s) ≡ t → length s ≤ at
-    go true q = absurd (not-end s at (ltb-true at (length s) q) e)
-    go false q = ltb-false at (length s) q
-
--- past it there is nothing
-before-end : (s : List ℕ) (at : ℕ) → (front (drop at s) ≡ End → ⊥) → at < length s
-before-end s at n = go (ltb at (length s)) refl
-  where
-    go : (t : Bool) → ltb at (length s) ≡ t → at < length s
-    go true q = ltb-true at (length s) q
-    go false q =
-        let h : length s ≤ at = ltb-false at (length s) q in
-        absurd (n (rw (drop-all at s h) front-nil))
-
-pub fault-before : (s : List ℕ) (at : ℕ) {number n : ℕ} → front (drop at s) ≡ Fault number n → at < length s
-fault-before s at e = before-end s at (λ q. let z : _≡_ {A = ℕ} 0 1 = cc in omega arith)
-
-pub found-before : (s : List ℕ) (at : ℕ) {op : Operation} {n : ℕ} → front (drop at s) ≡ Found op n → at < length s
-found-before s at e = before-end s at (λ q. let z : _≡_ {A = ℕ} 0 1 = cc in omega arith)
-
--- it ends further on, and not past the buffer
-pub ended : (s : List ℕ) (at end : ℕ) {f : Front} → front (drop at s) ≡ f → taken f ≡ end - at → at < length s → (at < end) × (end ≤ length s)
-ended s at end e t h =
-    let l : length (drop at s) ≡ length s - at = length-drop at s in
-    let m = rw (e, t) at (forward (drop at s) (omega arith)) in
-    (omega arith, omega arith)
 
 -- ---- the effect of an operation that meets its rules
 
@@ -169,24 +83,24 @@ data-fit s at end o h e op q =
 
 -- ---- the step
 
-module _ (s : List ℕ) (at end : ℕ) (r : Step) (h : at < length s) (q : r .end ≡ end) where
-  pub fault-taken : (number : ℕ) → front (drop at s) ≡ Fault number (end - at) → r .effect ≡ faultEffect (take (end - at) (drop at s)) → Taken s at r
+module _ (s : List ℕ) (at : ℕ) (r : Step) where
+  abbrev bytes : List ℕ
+  bytes = take (r .end - at) (drop at s)
+
+  pub fault-taken : {number : ℕ} → Spans s at (r .end) (Fault number (r .end - at)) (fault number bytes) → r .effect ≡ faultEffect bytes → Taken s at r
   unfolding faultEffect
-  fault-taken number e f =
-      let b = ended s at end e refl h in
-      let p : at + (end - at) ≡ end = omega (arith, b .0) in
-      record {
-        item = fault number (take (end - at) (drop at s));
-        items = unroll (drop at s) e ∙ rw (drop-drop (end - at) at s, p, q);
-        bytes = rw q;
-        effect = f;
-        rate = λ i rate g. none i rate (unanswered (take (end - at) (drop at s))) (sym f ∙ g);
-        fit = λ op g. never op (unanswered (take (end - at) (drop at s))) (sym f ∙ g);
-        forward = rw q (b .0);
-        within = rw q (b .1);
-      }
+  fault-taken n f = record {
+    item = _;
+    items = n .items;
+    bytes = refl;
+    effect = f;
+    rate = λ i rate g. none i rate (unanswered bytes) (sym f ∙ g);
+    fit = λ op g. never op (unanswered bytes) (sym f ∙ g);
+    forward = n .further;
+    within = n .within;
+  }
     where
-      none : (i rate : ℕ) (t : Bool) → cond t Nothing Answer ≡ SetRate i rate → i < 3
+      none : (i rate : ℕ) (t : Bool) {P : Type 0} → cond t Nothing Answer ≡ SetRate i rate → P
       none i rate true e = let z : _≡_ {A = ℕ} 0 1 = cc in absurd (omega arith)
       none i rate false e = let z : _≡_ {A = ℕ} 0 1 = cc in absurd (omega arith)
 
@@ -194,20 +108,17 @@ module _ (s : List ℕ) (at end : ℕ) (r : Step) (h : at < length s) (q : r .en
       never op true e = let z : _≡_ {A = ℕ} 0 1 = cc in absurd (omega arith)
       never op false e = let z : _≡_ {A = ℕ} 0 1 = cc in absurd (omega arith)
 
-  pub operation-taken : (op : Operation) → front (drop at s) ≡ Found op (end - at) → r .effect ≡ operationEffect op → Taken s at r
-  operation-taken op e f =
-      let b = ended s at end e refl h in
-      let p : at + (end - at) ≡ end = omega (arith, b .0) in
-      record {
-        item = operation op (take (end - at) (drop at s));
-        items = unroll (drop at s) e ∙ rw (drop-drop (end - at) at s, p, q);
-        bytes = rw q;
-        effect = f;
-        rate = rw f (small-rate op (found e .lawful));
-        fit = rw (f, q) (data-fit s at end op (b .0) e);
-        forward = rw q (b .0);
-        within = rw q (b .1);
-      }
+  pub operation-taken : {op : Operation} → Spans s at (r .end) (Found op (r .end - at)) (operation op bytes) → r .effect ≡ operationEffect op → Taken s at r
+  operation-taken {op} n f = record {
+    item = _;
+    items = n .items;
+    bytes = refl;
+    effect = f;
+    rate = rw f (small-rate op (found (n .stands) .lawful));
+    fit = rw f (data-fit s at (r .end) op (n .further) (n .stands));
+    forward = n .further;
+    within = n .within;
+  }
 
 -- ---- what stands at a position
 

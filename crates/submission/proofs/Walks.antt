@@ -5,7 +5,7 @@ use mathlib.Core.Bool.{true, false, cond}
 use mathlib.Core.List.{List, []}
 use Prim.Native.Nat.{ℕ, _-_, _≤_, _<_}
 use native.Mathlib.Omega.{arith}
-use lib.ListN.{length, take, drop, length-drop}
+use lib.ListN.{length, take, drop, length-drop, drop-of-length-le}
 use lib.Seq.{length-take-le}
 use Rattle.decoder.specs.Stream.{Item, bytesOf, itemsOf}
 use Rattle.plain_bus.proofs.Whole.{items-nil}
@@ -23,7 +23,6 @@ use Rattle.submission.specs.declared.Verdict.the-variants.{Goes, FourPen
 use Rattle.submission.proofs.Entries.{entry-there, entry-last, stored-again}
 use Rattle.submission.proofs.Wakes.{woken-sender}
 use Rattle.submission.proofs.Counts.{state-after-step}
-use Rattle.submission.proofs.Takes.{drop-all}
 
 -- ---- a step from the state with the sender's entry d, by its kind
 
@@ -49,7 +48,7 @@ module _ (s : State) (k : ℕ) (d : NodeState) (h : k < length (s .nodes)) (e : 
 -- ---- no item is left at the end
 
 none-left : (s : List ℕ) (at : ℕ) → length s ≤ at → itemsOf (drop at s) ≡ []
-none-left s at h = rw (drop-all at s h) items-nil
+none-left s at h = rw (drop-of-length-le s h) items-nil
 
 pub check-end : (s : List ℕ) (at k : ℕ) (x : State) → length s ≤ at → checkItems k (itemsOf (drop at s)) x ≡ Goes
 unfolding checkItems

@@ -3,7 +3,7 @@ use borrow.Author.Needs.{needs}
 use denote.Ref.{now}
 use mathlib.Core.Path.{sym, _∙_}
 use native.Mathlib.Omega.{arith}
-use Rattle.decode.proofs.Moving.{moves}
+use Rattle.decoder.proofs.Items.{next-item}
 use Rattle.decode.proofs.print_next.Statement.{statement}
 use Rattle.decode.proofs.print_next.Tie as tie
 
@@ -11,33 +11,39 @@ sub-fault : tie.Need-sub-fault
 sub-fault c =
     let r = c .before .before .before in
     let b = r .before .before in
-    omega (arith, moves (now (b .args .s)) (b .args .at) (sym (r .read .ensures) ∙ c .before .number .given .1) (b .pre) .0)
+    omega (arith, next-item (now (b .args .s)) (b .args .at) (sym (r .read .ensures) ∙ c .before .number .given .1) .further)
 
 part-fault-start : tie.Need-part-fault-start
 part-fault-start c =
     let r = c .before .before .before in
     let b = r .before .before in
-    let m = moves (now (b .args .s)) (b .args .at) (sym (r .read .ensures) ∙ c .before .number .given .1) (b .pre) in
+    let n = next-item (now (b .args .s)) (b .args .at) (sym (r .read .ensures) ∙ c .before .number .given .1) in
+    let f = n .further in
+    let w = n .within in
     search needs
 
 part-fault-end : tie.Need-part-fault-end
 part-fault-end c =
     let r = c .before .before .before in
     let b = r .before .before in
-    let m = moves (now (b .args .s)) (b .args .at) (sym (r .read .ensures) ∙ c .before .number .given .1) (b .pre) in
+    let n = next-item (now (b .args .s)) (b .args .at) (sym (r .read .ensures) ∙ c .before .number .given .1) in
+    let f = n .further in
+    let w = n .within in
     search needs
 
 returns-2 : tie.Need-returns-2
 returns-2 c =
     let r = c .before .before .before .before .before in
     let b = r .before .before in
-    moves (now (b .args .s)) (b .args .at) (sym (r .read .ensures) ∙ c .before .before .before .number .given .1) (b .pre)
+    let n = next-item (now (b .args .s)) (b .args .at) (sym (r .read .ensures) ∙ c .before .before .before .number .given .1) in
+    (n .further, n .within)
 
 returns-3 : tie.Need-returns-3
 returns-3 c =
     let r = c .before .before .before .before .before in
     let b = r .before .before in
-    moves (now (b .args .s)) (b .args .at) (sym (r .read .ensures) ∙ c .before .before .before .op .given .1) (b .pre)
+    let n = next-item (now (b .args .s)) (b .args .at) (sym (r .read .ensures) ∙ c .before .before .before .op .given .1) in
+    (n .further, n .within)
 
 pub print-next-spec : {M : Type 1} → statement M
 print-next-spec =

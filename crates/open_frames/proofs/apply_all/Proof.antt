@@ -1,7 +1,8 @@
 -- The loop's invariant: the items from the cursor on make of the register what all of them make of the given one.
 use Prim.Native.Nat.{_≤_, _-_}
+use Rattle.decoder.proofs.Items.{next-item}
 use Rattle.decoder.specs.Stream.{itemsOf}
-use Rattle.open_frames.proofs.Turns.{nearer, turn-of, refused, goes-on}
+use Rattle.open_frames.proofs.Turns.{turn-of, refused, goes-on}
 use Rattle.open_frames.specs.Record.{openIn}
 use Rattle.open_frames.specs.Steps.{itemStep, stepOf}
 use Rattle.plain_bus.specs.Register.{updated, updates}
@@ -9,6 +10,7 @@ use borrow.Author.Needs.{needs}
 use denote.Ref.{now}
 use lib.ListN.{length, drop}
 use mathlib.Core.Path.{_≡_, refl, sym, ap, _∙_}
+use native.Mathlib.Omega.{arith}
 use Rattle.open_frames.proofs.apply_all.Statement.{statement}
 use Rattle.open_frames.proofs.apply_all.Tie as tie
 
@@ -33,7 +35,8 @@ loop-less : tie.Need-loop-less Inv-loop μ-loop
 loop-less c =
     let d = c .before .before .before in
     let l = d .before in
-    nearer (now (l .before .before .args .buffer)) (l .loop .cursor .at) (sym (d .read .ensures) ∙ c .before .next .given .1)
+    let n = next-item (now (l .before .before .args .buffer)) (l .loop .cursor .at) (sym (d .read .ensures) ∙ c .before .next .given .1) in
+    omega (arith, n .further, n .within)
 
 loop-again : tie.Need-loop-again Inv-loop μ-loop
 loop-again c =
@@ -58,7 +61,8 @@ loop-less-2 c =
     let o = c .before .before .before .before .before in
     let d = o .before .before in
     let l = d .before in
-    nearer (now (l .before .before .args .buffer)) (l .loop .cursor .at) (sym (d .read .ensures) ∙ o .op .given .1)
+    let n = next-item (now (l .before .before .args .buffer)) (l .loop .cursor .at) (sym (d .read .ensures) ∙ o .op .given .1) in
+    omega (arith, n .further, n .within)
 
 loop-again-2 : tie.Need-loop-again-2 Inv-loop μ-loop
 loop-again-2 c =

@@ -1,9 +1,10 @@
 -- What was read there, with its effect.
 use Rattle.decoder.proofs.Found.{found}
-use Rattle.submission.proofs.Takes.{read-fault, read-found, at-end, fault-before, found-before, ended, fault-taken, operation-taken}
+use Rattle.decoder.proofs.Items.{next-item}
+use Rattle.submission.proofs.Takes.{fault-taken, operation-taken}
 use borrow.Author.Needs.{needs}
 use denote.Ref.{now}
-use mathlib.Core.Path.{refl, sym, _∙_}
+use mathlib.Core.Path.{sym, _∙_}
 use Rattle.submission.proofs.step_at.Statement.{statement}
 use Rattle.submission.proofs.step_at.Tie as tie
 
@@ -11,53 +12,52 @@ sub-fault-effect : tie.Need-sub-fault-effect
 sub-fault-effect c =
     let r = c .before .before .before in
     let b = r .before .before in
-    let f = read-fault (now (b .args .buffer)) (b .args .at) _ _ (sym (r .read .ensures) ∙ c .before .next .given .1) in
-    let e = ended _ _ _ f refl (fault-before _ _ f) in
+    let n = next-item (now (b .args .buffer)) (b .args .at) (sym (r .read .ensures) ∙ c .before .next .given .1) in
+    let f = n .further in
+    let w = n .within in
     search needs
 
 part-fault-effect-start : tie.Need-part-fault-effect-start
 part-fault-effect-start c =
     let r = c .before .before .before in
     let b = r .before .before in
-    let f = read-fault (now (b .args .buffer)) (b .args .at) _ _ (sym (r .read .ensures) ∙ c .before .next .given .1) in
-    let e = ended _ _ _ f refl (fault-before _ _ f) in
+    let n = next-item (now (b .args .buffer)) (b .args .at) (sym (r .read .ensures) ∙ c .before .next .given .1) in
+    let f = n .further in
+    let w = n .within in
     search needs
 
 part-fault-effect-end : tie.Need-part-fault-effect-end
 part-fault-effect-end c =
     let r = c .before .before .before in
     let b = r .before .before in
-    let f = read-fault (now (b .args .buffer)) (b .args .at) _ _ (sym (r .read .ensures) ∙ c .before .next .given .1) in
-    let e = ended _ _ _ f refl (fault-before _ _ f) in
+    let n = next-item (now (b .args .buffer)) (b .args .at) (sym (r .read .ensures) ∙ c .before .next .given .1) in
+    let f = n .further in
+    let w = n .within in
     search needs
 
 operation-effect-requires : tie.Need-operation-effect-requires
 operation-effect-requires c κs =
     let r = c .before .before .before in
     let b = r .before .before in
-    found (read-found (now (b .args .buffer)) (b .args .at) _ _ (sym (r .read .ensures) ∙ c .before .op .given .1)) .lawful
+    found (next-item (now (b .args .buffer)) (b .args .at) (sym (r .read .ensures) ∙ c .before .op .given .1) .stands) .lawful
 
 returns : tie.Need-returns
 returns c =
     let r = c .before .before in
     let b = r .before .before in
-    at-end (now (b .args .buffer)) (b .args .at) (sym (r .read .ensures) ∙ c .enum-told .given .1)
+    next-item (now (b .args .buffer)) (b .args .at) (sym (r .read .ensures) ∙ c .enum-told .given .1) .0
 
 returns-2 : tie.Need-returns-2
 returns-2 c =
     let r = c .before .before .before .before .before in
     let b = r .before .before in
-    let s = now (b .args .buffer) in
-    let f = read-fault s (b .args .at) _ _ (sym (r .read .ensures) ∙ c .before .before .before .next .given .1) in
-    fault-taken s (b .args .at) _ _ (fault-before s (b .args .at) f) refl _ f (c .fault-effect .ensures)
+    fault-taken _ _ _ (next-item (now (b .args .buffer)) (b .args .at) (sym (r .read .ensures) ∙ c .before .before .before .next .given .1)) (c .fault-effect .ensures)
 
 returns-3 : tie.Need-returns-3
 returns-3 c =
     let r = c .before .before .before .before in
     let b = r .before .before in
-    let s = now (b .args .buffer) in
-    let f = read-found s (b .args .at) _ _ (sym (r .read .ensures) ∙ c .before .before .op .given .1) in
-    operation-taken s (b .args .at) _ _ (found-before s (b .args .at) f) refl _ f (c .operation-effect .ensures)
+    operation-taken _ _ _ (next-item (now (b .args .buffer)) (b .args .at) (sym (r .read .ensures) ∙ c .before .before .op .given .1)) (c .operation-effect .ensures)
 
 pub step-at-spec : {M : Type 1} → statement M
 step-at-spec =
