@@ -10,6 +10,7 @@ use Rattle.operation.specs.Rules.{legal}
 use Rattle.operation.specs.declared.Operation.{Operation}
 use Rattle.operation.specs.declared.Operation.the-variants.{CanTransmit, FdTransmit, XlTransmit, Confirm, ArbitrationLost, Configuration}
 use Rattle.decoder.specs.Front.{front}
+use Rattle.decoder.specs.Stream.{Item, itemsOf}
 use Rattle.decoder.specs.declared.Front.{Front}
 use Rattle.decoder.specs.declared.Front.the-variants.{Fault}
 use Rattle.plain_bus.specs.Held.{Node, Bus}
@@ -20,26 +21,31 @@ use Rattle.plain_bus.specs.Register.{Register, Update, updateNumber, reg
 use Rattle.plain_bus.specs.Session.{Call, submission, round, calls, answers}
 use Rattle.plain_bus.specs.Network.{NodeRegisters, newNetwork, play}
 
--- what a line asks: the bytes of an operation; whether it meets the content rules; what stands at the front of some bytes;
--- of a session of so many nodes, how it ends, or the numbers of its answers, or the settings at its end, or what the registers
--- have open; what entering, or reading, some bytes does to a register
+-- what a line asks: the bytes of an operation; whether it, or each of some, meets the content rules; what stands at the front of
+-- some bytes, or in all of them; of a session of so many nodes, how it ends, or the numbers of its answers, or the settings at its
+-- end, or what the registers have open; how a session ends that starts from a given bus; what entering, or reading, some bytes
+-- does to a register
 pub data Question : Type 0 where
   written : Operation → List ℕ → Question
   isLegal : Operation → Question
-  frontOf : List ℕ → Question
+  eachLegal : List Operation → Question
+  frontOf itemsIn : List ℕ → Question
   session numbered settled registered : ℕ → List Call → Question
+  sessionFrom : Bus → List Call → Question
   entering reading : Register → List ℕ → Question
 
 -- the end of a session: the calls' answers, then for each node how many frames are pending, and its queue;
--- numbers: of the start, then of each call; settings: each node's status, behaviour and baud rates;
+-- numbers: of the start, then of each call; settings: the round number, and each node's status, behaviour and baud rates;
 -- open IDs: the register calls' numbers, newest first, then each register's IDs
 pub data Reply : Type 0 where
   bytes : List ℕ → Reply
   truth : Bool → Reply
+  truths : List Bool → Reply
   stands : Front → Reply
+  items : List Item → Reply
   ends : List Answer → List ℕ → List (List ℕ) → Reply
   numbers : List ℕ → Reply
-  settings : List (List ℕ) → Reply
+  settings : ℕ → List (List ℕ) → Reply
   opens : List ℕ → List (List ℕ) → Reply
 
 abbrev pub atEnd : List Answer → Bus → Reply
@@ -47,6 +53,9 @@ atEnd given b = ends given (map (λ (d : Node). length (d .pending)) (b .nodes))
 
 abbrev pub settingsOf : Node → List ℕ
 settingsOf d = d .status ∷ d .behaviour ∷ d .rates
+
+abbrev pub atSettings : Bus → Reply
+atSettings b = settings (b .round) (map settingsOf (b .nodes))
 
 abbrev pub inRegisters : NodeRegisters → Reply
 inRegisters rs = opens (rs .answers) (map (λ (r : Register). r .opened) (rs .each))
@@ -57,10 +66,13 @@ inRegister r u = opens (updateNumber u ∷ []) (registerAfter r u .opened ∷ []
 unfoldable pub reply : Question → Reply
 reply (written op payload) = bytes (encode op payload)
 reply (isLegal op) = truth (legal op)
+reply (eachLegal ops) = truths (map legal ops)
 reply (frontOf s) = stands (front s)
+reply (itemsIn s) = items (itemsOf s)
 reply (session n cs) = atEnd (answers cs (start n .bus)) (calls cs (start n .bus))
+reply (sessionFrom b cs) = atEnd (answers cs b) (calls cs b)
 reply (numbered n cs) = numbers (map answerNumber (start n .answer ∷ answers cs (start n .bus)))
-reply (settled n cs) = settings (map settingsOf (calls cs (start n .bus) .nodes))
+reply (settled n cs) = atSettings (calls cs (start n .bus))
 reply (registered n cs) = inRegisters (play cs (newNetwork (start n .bus)) .registers)
 reply (entering r s) = inRegister r (enter r s)
 reply (reading r s) = inRegister r (read r s)
