@@ -13,7 +13,6 @@ use Rattle.bus_model.specs.Calls.{Result}
 use Rattle.outcome.specs.Outcome.{outcomeIs, answerOf, Ended}
 use Rattle.outcome.specs.declared.Answer.{Answer}
 use Rattle.bus.specs.declared.Started.{Started}
-use Rattle.bus.specs.declared.Kept.{Kept}
 
 pub record Left : Type 0 where
   pub answer : Answer
@@ -29,12 +28,9 @@ abbrev pub leaves : Result → Left
 leaves r =
     left (answerOf (outcomeIs (r .reply)) (r .memory .state)) (r .memory .slots) (r .memory .payload) (r .memory .queues)
 
--- what a start, and a call that changes no slot, come to
+-- what a start comes to
 abbrev pub startedBy : Started → List ℕ → List ℕ → Ended
 startedBy c payload queues = record { outcome = c .outcome; memory = held (c .state) (c .slots) payload queues }
-
-abbrev pub keptBy : Kept → List Slot → List ℕ → List ℕ → Ended
-keptBy c slots payload queues = record { outcome = c .outcome; memory = held (c .state) slots payload queues }
 
 -- ---- the slots that a call is made on
 
@@ -42,6 +38,11 @@ keptBy c slots payload queues = record { outcome = c .outcome; memory = held (c 
 pub record Scanned (s : State) (key : ℕ) (a : List Slot) : Type 0 where
   pub slots : length a ≡ slotCount
   pub key-is : scanned s a ≡ key
+
+-- some number of them, and the key where they are 32
+pub record Counted (s : State) (slots : ℕ) (key : ℕ) (a : List Slot) : Type 0 where
+  pub count : length a ≡ slots
+  pub key-is : length a ≡ slotCount → scanned s a ≡ key
 
 -- and what a round takes of them: the four of the winner's node, and the ID in every one
 pub record Taken (s : State) (key : ℕ) (four : List Slot) (ids : List ℕ) (a : List Slot) : Type 0 where
