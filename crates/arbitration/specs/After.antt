@@ -1,5 +1,5 @@
--- What a round that is carried out leaves: the entries, the queues, and, once these are written, the slots and the payload without
--- the winner (01, "One round").
+-- Internal. What a round that is carried out leaves: the entries, the queues, and, once these are written, the slots and the payload
+-- without the winner (01, "One round").
 -- Assumes nothing.
 use Prim.Native.Nat.{ℕ, zero, suc, _+_, _*_}
 use mathlib.Core.List.{List, [], _∷_}

@@ -1,4 +1,4 @@
--- What a round is given of the slots: the winner, the four slots of its node, and the ID in every slot.
+-- Internal. What a round is given of the slots: the winner, the four slots of its node, and the ID in every slot.
 -- Assumes nothing.
 use Prim.Native.Nat.{ℕ, _*_}
 use mathlib.Core.Path.{_≡_}

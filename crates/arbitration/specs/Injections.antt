@@ -1,4 +1,4 @@
--- An injected error as the plain bus has it.
+-- Internal. An injected error as the plain bus has it.
 -- Assumes nothing.
 use mathlib.Core.Bool.{Bool, true, false, not, _||_}
 use lib.Dec.{ltb}

@@ -1,4 +1,4 @@
--- What a round owes each node: bytes, and their number, which decides before any byte is written (01, "One round").
+-- Internal. What a round owes each node: bytes, and their number, which decides before any byte is written (01, "One round").
 -- Assumes nothing.
 use Prim.Native.Nat.{ℕ, zero, suc, _+_, _-_, _*_, _≤_, _<_}
 use mathlib.Core.Path.{_≡_}

@@ -1,4 +1,4 @@
--- A round that is carried out, as the model answers it.
+-- Internal. A round that is carried out, as the model answers it.
 -- Assumes nothing.
 use Prim.Native.Nat.{_-_}
 use Rattle.plain_bus.specs.Order.{Entry}

@@ -1,4 +1,4 @@
--- A part of a list, and a list with some bytes laid over such a part.
+-- Believed. A part of a list, and a list with some bytes laid over such a part.
 -- Assumes nothing.
 use Prim.Native.Nat.{ℕ, _+_}
 use mathlib.Core.List.{List, _++_}

@@ -12,7 +12,7 @@ use Rattle.scan.specs.Scan.{keyOf, winnerBlock}
 use Rattle.scan.proofs.Keys.{block-of}
 use Rattle.scan.proofs.Scanned.{winner-key, winner-small}
 use Rattle.arbitration.specs.Drawn.{Drawn}
-use Rattle.bus.specs.Left.{Taken}
+use Rattle.bus.specs.Given.{Taken}
 use Rattle.bus.proofs.Lending.{valid-by-key}
 
 module _ {s : State} {key : ℕ} {four : List Slot} {ids : List ℕ} {a : List Slot} (h : Taken s key four ids a) where

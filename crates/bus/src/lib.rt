@@ -14,13 +14,17 @@ ghost use Rattle.outcome.specs.Outcome.{answerOf};
 ghost use Rattle.outcome.specs.Ended.{endedBy, ended};
 ghost use Rattle.plain_bus.specs.Round.{injectionFrom};
 ghost use Rattle.submission.specs.Carrying.{firstSlot};
-ghost use Rattle.bus.specs.Left.{startedBy, keptBy, Scanned, Taken};
+ghost use Rattle.bus.specs.Left.{left, leaves};
+ghost use Rattle.bus.specs.Given.{startedBy, Scanned, Counted, Taken};
+ghost use Rattle.bus.specs.Tested.{lentSizes, tested};
 use bus_state::NodeState;
 use bus_state::State;
 use outcome::Answer;
 use outcome::Change;
 use outcome::Outcome;
 use slots::Slot;
+
+const SLOTS: usize = 32;
 
 const PAYLOAD_BYTES: usize = 65536;
 
@@ -44,10 +48,10 @@ pub struct Started {
     pub slots: [Slot; 32],
 }
 
-// The outcome of a call that changes no slot, with the state after it.
-pub struct Kept {
-    pub outcome: Outcome,
-    pub state: State,
+// What the tests for 1 and 3 come to.
+pub enum Test {
+    Refused(Outcome),
+    Passed,
 }
 
 fn new_entry() -> NodeState
@@ -74,17 +78,36 @@ pub fn new_state(count: u32) -> State
     }
 }
 
+// Whether the lent slots, payload bytes and queue bytes are as many as they must be.
+fn are_lent(slots: usize, payload: usize, queues: usize) -> bool
+    ensures { λ r. ⌜ r ≡ lentSizes slots payload queues ⌝ }
+{
+    if slots != SLOTS {
+        return false;
+    }
+    if payload != PAYLOAD_BYTES {
+        return false;
+    }
+    queues == QUEUE_BYTES
+}
+
+// The tests for 1 and 3, by what is lent and the key of the slots.
+fn test_lent(slots: usize, payload: usize, queues: usize, key: u64) -> Test
+    ensures { λ r. ⌜ r ≡ tested slots payload queues key ⌝ }
+{
+    if !are_lent(slots, payload, queues) {
+        return Test::Refused(Outcome::WrongMemory);
+    }
+    if key == scan::INVALID {
+        return Test::Refused(Outcome::Invalid);
+    }
+    Test::Passed
+}
+
 pub fn start(a: [Slot; 32], payload: &[u8], queues: &[u8], count: u32) -> Started
     ensures { λ r. ⌜ startedBy r (now (payload .entry)) (now (queues .entry)) ≡ ended (startIn (held (newState 0) a (now (payload .entry)) (now (queues .entry))) count) ⌝ }
 {
-    if payload.len() != PAYLOAD_BYTES {
-        return Started {
-            outcome: Outcome::WrongMemory,
-            state: new_state(0),
-            slots: a,
-        };
-    }
-    if queues.len() != QUEUE_BYTES {
+    if !are_lent(SLOTS, payload.len(), queues.len()) {
         return Started {
             outcome: Outcome::WrongMemory,
             state: new_state(0),
@@ -121,25 +144,9 @@ pub fn submit(
     ensures inside { λ r. ⌜ r .at + 4 ≤ 32 ⌝ }
 {
     let at = submission::first_slot(node);
-    if payload.len() != PAYLOAD_BYTES {
+    if let Test::Refused(outcome) = test_lent(SLOTS, payload.len(), queues.len(), key) {
         return Change {
-            outcome: Outcome::WrongMemory,
-            state: s,
-            at,
-            block: four,
-        };
-    }
-    if queues.len() != QUEUE_BYTES {
-        return Change {
-            outcome: Outcome::WrongMemory,
-            state: s,
-            at,
-            block: four,
-        };
-    }
-    if key == scan::INVALID {
-        return Change {
-            outcome: Outcome::Invalid,
+            outcome,
             state: s,
             at,
             block: four,
@@ -165,25 +172,9 @@ pub fn round(
     ensures inside { λ r. ⌜ r .at + 4 ≤ 32 ⌝ }
 {
     let at = scan::winner_block(key);
-    if payload.len() != PAYLOAD_BYTES {
+    if let Test::Refused(outcome) = test_lent(SLOTS, payload.len(), queues.len(), key) {
         return Change {
-            outcome: Outcome::WrongMemory,
-            state: s,
-            at,
-            block: four,
-        };
-    }
-    if queues.len() != QUEUE_BYTES {
-        return Change {
-            outcome: Outcome::WrongMemory,
-            state: s,
-            at,
-            block: four,
-        };
-    }
-    if key == scan::INVALID {
-        return Change {
-            outcome: Outcome::Invalid,
+            outcome,
             state: s,
             at,
             block: four,
@@ -194,62 +185,42 @@ pub fn round(
     arbitration::round(s, best, four, ids, payload, queues, e)
 }
 
-// The queue goes to the front of the caller's buffer.
+// The queue goes to the front of the caller's buffer. The slots are as many as slots says.
 pub fn collect(
     s: State,
+    slots: usize,
     key: u64,
     payload: &[u8],
     queues: &[u8],
     node: u32,
     buffer: &mut [u8],
-) -> Kept
-    requires { ⌜ ((a : List Slot) × Scanned s key a) ⌝ }
-    ensures kept { λ r. ⌜ ((a : List Slot) → Scanned s key a → keptBy r a (now (payload .entry)) (now (queues .entry)) ≡ ended (collectIn (held s a (now (payload .entry)) (now (queues .entry))) node (length (now (buffer .entry))))) ⌝ }
-    ensures written { λ _. ⌜ ((a : List Slot) → Scanned s key a → now (buffer .exit) ≡ bufferAfter (collectIn (held s a (now (payload .entry)) (now (queues .entry))) node (length (now (buffer .entry))) .reply) (now (buffer .entry))) ⌝ }
+) -> Answer
+    requires { ⌜ ((a : List Slot) × Counted s slots key a) ⌝ }
+    ensures left { λ r. ⌜ ((a : List Slot) → Counted s slots key a → left r a (now (payload .entry)) (now (queues .entry)) ≡ leaves (collectIn (held s a (now (payload .entry)) (now (queues .entry))) node (length (now (buffer .entry))))) ⌝ }
+    ensures written { λ _. ⌜ ((a : List Slot) → Counted s slots key a → now (buffer .exit) ≡ bufferAfter (collectIn (held s a (now (payload .entry)) (now (queues .entry))) node (length (now (buffer .entry))) .reply) (now (buffer .entry))) ⌝ }
 {
-    if payload.len() != PAYLOAD_BYTES {
-        return Kept {
-            outcome: Outcome::WrongMemory,
-            state: s,
-        };
-    }
-    if queues.len() != QUEUE_BYTES {
-        return Kept {
-            outcome: Outcome::WrongMemory,
-            state: s,
-        };
-    }
-    if key == scan::INVALID {
-        return Kept {
-            outcome: Outcome::Invalid,
-            state: s,
-        };
+    if let Test::Refused(outcome) = test_lent(slots, payload.len(), queues.len(), key) {
+        return outcome::answer_of(outcome, s);
     }
     if s.count <= node {
-        return Kept {
-            outcome: Outcome::NotAttached,
-            state: s,
-        };
+        return outcome::answer_of(Outcome::NotAttached, s);
     }
     let k = node as usize;
     let d = bus_state::entry(s, k);
     let fill = d.fill as usize;
     if buffer.len() < fill {
-        return Kept {
-            outcome: Outcome::RoomTooSmall,
-            state: s,
-        };
+        return outcome::answer_of(Outcome::RoomTooSmall, s);
     }
     let at = bus_state::QUEUE_CAPACITY as usize * k;
     buffers::put_long(buffer, 0, &queues[at..at + fill]);
     let empty = bus_state::with_fill(d, 0);
-    Kept {
-        outcome: Outcome::Collected(d.fill),
-        state: bus_state::with_entry(s, k, empty),
-    }
+    outcome::answer_of(
+        Outcome::Collected(d.fill),
+        bus_state::with_entry(s, k, empty),
+    )
 }
 
-// For the public calls: an answer without the slots' part, and the parts of a change.
+// For the public calls: an answer without the slots' part, and the parts of a start.
 
 pub fn wrong_memory(s: State) -> Answer
     ensures { λ r. ⌜ r ≡ answerOf Outcome.WrongMemory s ⌝ }
@@ -274,30 +245,4 @@ pub fn slots_started(c: Started) -> [Slot; 32]
     ensures { λ r. ⌜ r ≡ c .slots ⌝ }
 {
     c.slots
-}
-
-pub fn answer_kept(c: Kept) -> Answer
-    ensures { λ r. ⌜ r ≡ answerOf (c .outcome) (c .state) ⌝ }
-{
-    let outcome = c.outcome;
-    outcome::answer_of(outcome, c.state)
-}
-
-pub fn answer_changed(c: Change) -> Answer
-    ensures { λ r. ⌜ r ≡ answerOf (c .outcome) (c .state) ⌝ }
-{
-    let outcome = c.outcome;
-    outcome::answer_of(outcome, c.state)
-}
-
-pub fn position_changed(c: Change) -> usize
-    ensures { λ r. ⌜ r ≡ c .at ⌝ }
-{
-    c.at
-}
-
-pub fn block_changed(c: Change) -> [Slot; 4]
-    ensures { λ r. ⌜ r ≡ c .block ⌝ }
-{
-    c.block
 }

@@ -1,5 +1,5 @@
--- The calls on the state and the lent memory: refusals 1 and 3, then those of the plain call in its order (01, "Numbers that calls
--- answer with"). A refusal hands back the memory as it was; a refused start a state of node count 0.
+-- Contract. The calls on the state and the lent memory: refusals 1 and 3, then those of the plain call in its order (01, "Numbers that
+-- calls answer with"). A refusal hands back the memory as it was; a refused start a state of node count 0.
 -- Assumes nothing.
 use Prim.Native.Nat.{ℕ, _-_, _*_}
 use mathlib.Core.List.{List}

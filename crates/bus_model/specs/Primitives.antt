@@ -1,4 +1,4 @@
--- The changes that the calls are made of, each on the state and the lent memory. What is not named stays as it was: the bytes
+-- Contract. The changes that the calls are made of, each on the state and the lent memory. What is not named stays as it was: the bytes
 -- of a removed frame, and those of a queue past its fill.
 -- Assumes nothing.
 use Prim.Native.Nat.{ℕ, zero, suc, _+_, _-_, _*_}

@@ -1,5 +1,5 @@
--- What is proved of each call (proofs: start-refines, submit-refines, round-refines, collect-refines): with memory as its types and sizes
--- say, and valid, it is the plain call on the view.
+-- Internal. What is proved of each call (proofs: start-refines, submit-refines, round-refines, collect-refines): with memory as its types
+-- and sizes say, and valid, it is the plain call on the view.
 -- Assumes nothing.
 use Prim.Native.Nat.{ℕ, _≤_, _<_, _^_}
 use mathlib.Core.Path.{_≡_}

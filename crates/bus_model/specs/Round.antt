@@ -1,4 +1,4 @@
--- One round on the state and the lent memory (01, "One round").
+-- Contract. One round on the state and the lent memory (01, "One round").
 -- Assumes nothing.
 use Prim.Native.Nat.{ℕ, zero, suc, _+_, _*_}
 use mathlib.Core.List.{List, [], _++_}

@@ -1,4 +1,4 @@
--- Any call of a session on the state and the lent memory.
+-- Internal. Any call of a session on the state and the lent memory.
 -- Assumes nothing.
 use Rattle.operation.specs.Number.{Bytes}
 use Rattle.plain_bus.specs.Session.{Call, submission, round, collection}

@@ -1,4 +1,4 @@
--- Submitting a buffer to the state and the lent memory, one step an item (01, "Handing in").
+-- Contract. Submitting a buffer to the state and the lent memory, one step an item (01, "Handing in").
 -- Assumes nothing.
 use Prim.Native.Nat.{ℕ, zero, suc, _+_, _-_}
 use mathlib.Core.List.{List, [], _∷_}

@@ -1,4 +1,4 @@
--- A node's entry: whether the node is Bus-Off, and the setters, of one entry and of one field of it.
+-- Contract. A node's entry: whether the node is Bus-Off, and the setters, of one entry and of one field of it.
 -- Assumes nothing.
 use Prim.Native.Nat.{ℕ}
 use mathlib.Core.List.{List}

@@ -1,4 +1,4 @@
--- Internal, for the pass over the slots (scan): no contract of a public call and no demand names it.
+-- Internal. For the pass over the slots (scan): what a valid slot has but for the present round.
 -- Assumes nothing.
 use Prim.Native.Nat.{ℕ}
 use mathlib.Core.Bool.{Bool, _&&_}

@@ -1,4 +1,4 @@
--- The state and the lent memory together, and what the plain bus reads from them: its view (01, "What the bus holds").
+-- Believed. The state and the lent memory together, and what the plain bus reads from them: its view (01, "What the bus holds").
 -- Assumes nothing.
 use Prim.Native.Nat.{ℕ, zero, suc, _*_}
 use mathlib.Core.List.{List, [], _∷_}

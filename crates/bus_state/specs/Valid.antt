@@ -1,4 +1,5 @@
--- Validity as a test on the state with its slots, by which refusal 3 goes. What it decides stands in Validity.antt, clause by clause.
+-- Believed. Validity as a test on the state with its slots, by which refusal 3 goes. What it decides stands in Validity.antt, clause by
+-- clause.
 -- Assumes nothing.
 use Prim.Native.Nat.{ℕ, zero, suc, _*_}
 use mathlib.Core.List.{List, [], _∷_}

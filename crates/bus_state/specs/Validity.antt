@@ -1,5 +1,5 @@
--- When state and lent memory are valid (01: sound, "What the bus holds"): a field for each clause of 01, in 01's order. Refusal 3 goes
--- by a test (Valid.antt); `ValidityTested`, below, says that the test passes exactly what is valid.
+-- Believed. When state and lent memory are valid (01: sound, "What the bus holds"): a field for each clause of 01, in 01's order. Refusal
+-- 3 goes by a test (Valid.antt); `ValidityTested`, below, says that the test passes exactly what is valid.
 -- Assumes nothing.
 use Prim.Native.Nat.{ℕ, _+_, _*_, _≤_, _<_}
 use mathlib.Core.Path.{_≡_}

@@ -1,6 +1,6 @@
 -- Believed. The customer's demands (00, item 4): what is demanded of each call of the bus and of the registers, by what it is given, what
--- it answers and what it leaves; and demand 3 of whole sessions of such calls. That the exported functions meet these is in Exported.
--- The rules that they are held to are those of the plain bus.
+-- it answers and what it leaves; and demand 3 of whole sessions of such calls. That the exported functions meet these is in Exported. The
+-- rules that they are held to are those of the plain bus.
 -- Assumes nothing.
 use Prim.Native.Nat.{ℕ, _+_, _<_}
 use mathlib.Core.Path.{_≡_}

@@ -1,7 +1,7 @@
 -- Believed. The exported functions meet the demands, whatever they are called with: a statement a function, about its parameters, its
--- result and what its lent memory holds when it returns. A function that did less, or asked more of its caller, would not meet it.
--- Of the toolchain's words, `now x` is what is behind a reference, `a .0`, `a .1 .0` .. are the parameters in their order, `e .0` .. the
--- same when the function returns, and `Meets` says that every run of a routine returns and keeps a contract.
+-- result and what its lent memory holds when it returns. A function that did less, or asked more of its caller, would not meet it. Of the
+-- toolchain's words, `now x` is what is behind a reference, `a .0`, `a .1 .0` .. are the parameters in their order, `e .0` .. the same
+-- when the function returns, and `Meets` says that every run of a routine returns and keeps a contract.
 -- Assumes nothing.
 use mathlib.Core.Path.{_≡_}
 use mathlib.Core.List.{[]}

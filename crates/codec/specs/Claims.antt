@@ -1,6 +1,5 @@
--- Demand 2, of the bytes: what is written reads back the same, and what reads well writes back to the same bytes; and reading
--- goes through any buffer, piece by piece, to its end. The definitions are those that the contracts of `write`, `read` and
--- `data` name.
+-- Internal. Demand 2, of the bytes: what is written reads back the same, and what reads well writes back to the same bytes; and reading
+-- goes through any buffer, piece by piece, to its end. The definitions are those that the contracts of `write`, `read` and `data` name.
 -- Assumes nothing.
 use mathlib.Core.Path.{_≡_}
 use mathlib.Core.List.{List, _++_}

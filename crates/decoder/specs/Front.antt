@@ -1,4 +1,4 @@
--- What stands at the front of some bytes: an operation, or a fault (01, "Operations as bytes", faults 1 to 5).
+-- Believed. What stands at the front of some bytes: an operation, or a fault (01, "Operations as bytes", faults 1 to 5).
 -- Assumes nothing.
 use Prim.Native.Nat.{ℕ}
 use mathlib.Core.List.{List}

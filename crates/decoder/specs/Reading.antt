@@ -1,4 +1,4 @@
--- Reading at a position of a buffer, and the data of an operation that was read (01, "Operations as bytes").
+-- Believed. Reading at a position of a buffer, and the data of an operation that was read (01, "Operations as bytes").
 -- Assumes nothing.
 use Prim.Native.Nat.{ℕ, _+_, _-_}
 use mathlib.Core.List.{List, []}

@@ -1,4 +1,4 @@
--- A whole buffer as a list of operations and faults, each with its complete bytes.
+-- Believed. A whole buffer as a list of operations and faults, each with its complete bytes.
 -- Assumes nothing.
 use Prim.Native.Nat.{ℕ, zero, suc}
 use mathlib.Core.List.{List, [], _∷_, _++_}

@@ -1,5 +1,5 @@
--- Writing one operation to the front of a buffer: what is answered, and what the buffer then holds (01, "One round", its
--- last paragraph, and refusals 7 and 11).
+-- Believed. Writing one operation to the front of a buffer: what is answered, and what the buffer then holds (01, "One round", its last
+-- paragraph, and refusals 7 and 11).
 -- Assumes nothing.
 use Prim.Native.Nat.{ℕ, _+_}
 use mathlib.Core.List.{List}

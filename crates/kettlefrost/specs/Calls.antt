@@ -1,4 +1,4 @@
--- What the calls for C answer, from what the calls of the library answer.
+-- Believed. What the calls for C answer, from what the calls of the library answer.
 -- Assumes nothing.
 use Prim.Native.Nat.{ℕ, _-_}
 use mathlib.Core.List.{List}

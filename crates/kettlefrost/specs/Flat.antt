@@ -1,5 +1,5 @@
--- An operation as a record of plain numbers, for callers in C: its code and its fields
--- in the order of 01's table, 0 where its kind has no such field.
+-- Believed. An operation as a record of plain numbers, for callers in C: its code and its fields in the order of 01's table, 0 where its
+-- kind has no such field.
 -- Assumes nothing.
 use Prim.Native.Nat.{ℕ}
 use Rattle.operation.specs.declared.Operation.{Operation}

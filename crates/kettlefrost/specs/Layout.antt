@@ -1,4 +1,4 @@
--- The layout of the records for C as one number: it changes with the size of a record.
+-- Believed. The layout of the records for C as one number: it changes with the size of a record.
 -- Assumes nothing.
 use Prim.Native.Nat.{ℕ, _+_, _*_, _-_, _/_, max}
 use mathlib.Core.List.{List, [], _∷_}

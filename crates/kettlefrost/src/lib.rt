@@ -360,8 +360,7 @@ pub extern "C" fn kf_submit(
     let four = lent_slots::block_at(slots, at);
     let key = lent_scan::scan(slots, state);
     let c = bus::submit(state, key, four, payload, queues, node, buffer);
-    lent_slots::put_block(slots, bus::position_changed(c), bus::block_changed(c));
-    bus::answer_changed(c)
+    lent_scan::finish(slots, c)
 }
 
 #[no_mangle]
@@ -395,8 +394,7 @@ pub extern "C" fn kf_round(
         code,
         detector,
     );
-    lent_slots::put_block(slots, bus::position_changed(c), bus::block_changed(c));
-    bus::answer_changed(c)
+    lent_scan::finish(slots, c)
 }
 
 // The queue goes to the front of the caller's buffer.
@@ -412,10 +410,6 @@ pub extern "C" fn kf_collect(
     ensures left { λ r. ⌜ left r (now (slots .entry)) (now (payload .entry)) (now (queues .entry)) ≡ leaves (collectIn (held state (now (slots .entry)) (now (payload .entry)) (now (queues .entry))) node (length (now (buffer .entry)))) ⌝ }
     ensures written { λ _. ⌜ now (buffer .exit) ≡ bufferAfter (collectIn (held state (now (slots .entry)) (now (payload .entry)) (now (queues .entry))) node (length (now (buffer .entry))) .reply) (now (buffer .entry)) ⌝ }
 {
-    if slots.len() != SLOTS {
-        return bus::wrong_memory(state);
-    }
-    let key = lent_scan::scan(slots, state);
-    let c = bus::collect(state, key, payload, queues, node, buffer);
-    bus::answer_kept(c)
+    let key = lent_scan::key(slots, state);
+    bus::collect(state, slots.len(), key, payload, queues, node, buffer)
 }

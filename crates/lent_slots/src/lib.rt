@@ -1,26 +1,11 @@
-// The lent slots, one by one and all at once. These are for the bus crate above only: each has a requires that its caller must meet.
+// The lent slots, four at a time and all at once. These are for the bus crate above only: each has a requires that its caller must meet.
 ghost use mathlib.Core.Path.{_≡_};
 ghost use mathlib.Core.List.{[], _∷_, map};
-ghost use Prim.Native.Nat.{_<_, _+_, _≤_};
-ghost use lib.ListN.{length, getD, set};
-ghost use Rattle.slots.specs.Slots.{freeSlot};
+ghost use Prim.Native.Nat.{_+_, _≤_};
+ghost use lib.ListN.{length};
 ghost use Rattle.slots.specs.Blocks.{blockAt, setBlock};
 ghost use Rattle.slots.specs.declared.Slot.{Slot};
 use slots::Slot;
-
-pub fn get(slots: &[Slot], i: usize) -> Slot
-    requires { ⌜ i < length (now slots) ⌝ }
-    ensures { λ r. ⌜ r ≡ getD (now (slots .entry)) i freeSlot ⌝ }
-{
-    slots[i]
-}
-
-pub fn put(slots: &mut [Slot], i: usize, s: Slot)
-    requires { ⌜ i < length (now slots) ⌝ }
-    ensures { λ _. ⌜ now (slots .exit) ≡ set (now (slots .entry)) i s ⌝ }
-{
-    slots[i] = s;
-}
 
 // Four slots as an array.
 fn block(first: Slot, second: Slot, third: Slot, fourth: Slot) -> [Slot; 4]

@@ -1,5 +1,5 @@
--- What a line of text holds, and how the bytes put on it are spelled: blanks, names, numbers. What was written to standard output is
--- no part of it.
+-- Internal. What a line of text holds, and how the bytes put on it are spelled: blanks, names, numbers. What was written to standard
+-- output is no part of it.
 -- Assumes nothing.
 use Prim.Native.Nat.{ℕ, zero, suc, _+_, _-_, _/_, _%_}
 use mathlib.Core.Path.{_≡_}

@@ -1,4 +1,4 @@
--- The register of open frames (01: the book) as a record of plain numbers, and what its calls answer.
+-- Believed. The register of open frames (01: the book) as a record of plain numbers, and what its calls answer.
 -- Assumes nothing.
 use Prim.Native.Nat.{ℕ, _-_}
 use mathlib.Core.List.{List, _++_}

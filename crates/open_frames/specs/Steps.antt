@@ -1,4 +1,4 @@
--- The steps of a call on the register of open frames: what each leaves, and where an ID is taken out.
+-- Internal. The steps of a call on the register of open frames: what each leaves, and where an ID is taken out.
 -- Assumes nothing.
 use Prim.Native.Nat.{ℕ, suc}
 use mathlib.Core.List.{List, [], _∷_, _++_}

@@ -1,4 +1,4 @@
--- The ten operations as bytes: code, length and fields (01, "Operations as bytes", the table).
+-- Believed. The ten operations as bytes: code, length and fields (01, "Operations as bytes", the table).
 -- Assumes nothing.
 use Prim.Native.Nat.{ℕ, _+_, _^_, _<_}
 use mathlib.Core.List.{List, [], _∷_, _++_}

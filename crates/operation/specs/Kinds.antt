@@ -1,4 +1,4 @@
--- Which operations carry a frame, and which ID they name (01, "Operations as bytes").
+-- Believed. Which operations carry a frame, and which ID they name (01, "Operations as bytes").
 -- Assumes nothing.
 use Prim.Native.Nat.{ℕ}
 use mathlib.Core.Bool.{Bool, true, false}

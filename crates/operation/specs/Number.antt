@@ -1,4 +1,4 @@
--- Numbers as bytes (01, "Operations as bytes": numbers are little-endian).
+-- Believed. Numbers as bytes (01, "Operations as bytes": numbers are little-endian).
 -- Assumes nothing.
 use Prim.Native.Nat.{ℕ, zero, suc, _+_, _*_, _/_, _%_, _<_}
 use mathlib.Core.List.{List, [], _∷_}

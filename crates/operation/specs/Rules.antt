@@ -1,4 +1,4 @@
--- The content rules (01, "Operations as bytes": ranges and values of fields), one test a rule.
+-- Believed. The content rules (01, "Operations as bytes": ranges and values of fields), one test a rule.
 -- Assumes nothing.
 use Prim.Native.Nat.{ℕ}
 use mathlib.Core.List.{List, [], _∷_}

@@ -1,4 +1,4 @@
--- An answer beside the slots that the call leaves.
+-- Internal. An answer beside the slots that the call leaves.
 -- Assumes nothing.
 use mathlib.Core.List.{List}
 use Rattle.slots.specs.declared.Slot.{Slot}

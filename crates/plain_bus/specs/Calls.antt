@@ -1,5 +1,5 @@
--- The calls: each one's refusals in their order, and what it does and answers when there is none
--- (01, "Numbers that calls answer with", "Handing in", "One round"). A refusal hands back the bus as it was.
+-- Believed. The calls: each one's refusals in their order, and what it does and answers when there is none (01, "Numbers that calls
+-- answer with", "Handing in", "One round"). A refusal hands back the bus as it was.
 -- Assumes nothing.
 use Prim.Native.Nat.{ℕ}
 use mathlib.Core.List.{List, []}

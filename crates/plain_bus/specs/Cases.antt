@@ -1,4 +1,4 @@
--- A second table: rules that are easy to get wrong, and the easy errors that 01 names, each as a short session.
+-- Examples. A second table: rules that are easy to get wrong, and the easy errors that 01 names, each as a short session.
 -- Assumes nothing.
 use Prim.Native.Nat.{ℕ, _-_}
 use mathlib.Core.Path.{_≡_}

@@ -1,4 +1,4 @@
--- Which operations close an open frame (01, "The book").
+-- Believed. Which operations close an open frame (01, "The book").
 -- Assumes nothing.
 use mathlib.Core.Bool.{Bool, true, false}
 use lib.Dec.{eqb}

@@ -1,4 +1,4 @@
--- W1 to W10 as one table, and the statement about it (01, "Sessions to check by hand").
+-- Examples. W1 to W10 as one table, and the statement about it (01, "Sessions to check by hand").
 -- Assumes nothing.
 use Prim.Native.Nat.{ℕ}
 use mathlib.Core.Path.{_≡_}

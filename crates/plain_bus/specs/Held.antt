@@ -1,5 +1,5 @@
--- What the bus holds for each attached node and over all, and how it starts (01, "What the bus holds").
--- Nodes and the bus are changed through the setters only.
+-- Believed. What the bus holds for each attached node and over all, and how it starts (01, "What the bus holds"). Nodes and the bus are
+-- changed through the setters only.
 -- Assumes nothing.
 use Prim.Native.Nat.{ℕ, suc, _+_}
 use mathlib.Core.List.{List, [], _∷_, _++_}

@@ -1,4 +1,4 @@
--- The plain bus with each attached node's register run along, for the worked examples and the proof of demand 3.
+-- Internal. The plain bus with each attached node's register run along, for the worked examples and the proof of demand 3.
 -- Assumes nothing.
 use Prim.Native.Nat.{ℕ}
 use mathlib.Core.List.{List, [], _∷_}

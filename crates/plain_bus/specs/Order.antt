@@ -1,4 +1,4 @@
--- The order among pending frames, and the first one by it (01, "One round").
+-- Believed. The order among pending frames, and the first one by it (01, "One round").
 -- Assumes nothing.
 use Prim.Native.Nat.{ℕ, suc, _<_}
 use mathlib.Core.Path.{_≡_}

@@ -1,5 +1,5 @@
--- The refusals of the bus and of the register, and their numbers (01, "Numbers that calls answer with").
--- Number 0 is no refusal; 7 is about writing (encoder).
+-- Believed. The refusals of the bus and of the register, and their numbers (01, "Numbers that calls answer with"). Number 0 is no
+-- refusal; 7 is about writing (encoder).
 -- Assumes nothing.
 use Prim.Native.Nat.{ℕ}
 

@@ -1,4 +1,4 @@
--- The register that a node keeps of its open frames (01: the book, "The book").
+-- Believed. The register that a node keeps of its open frames (01: the book, "The book").
 -- Assumes nothing.
 use Prim.Native.Nat.{ℕ}
 use mathlib.Core.List.{List, [], _∷_, _++_}

@@ -1,4 +1,4 @@
--- One round that is carried out: what each node gets, what is removed, the age (01, "One round").
+-- Believed. One round that is carried out: what each node gets, what is removed, the age (01, "One round").
 -- Assumes nothing.
 use Prim.Native.Nat.{ℕ, zero, suc, _+_, _-_}
 use mathlib.Core.List.{List, [], _∷_, _++_}

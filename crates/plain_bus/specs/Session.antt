@@ -1,4 +1,4 @@
--- Lists of calls of the plain bus, and what demand 3 counts (00, item 4; 01, "The book").
+-- Believed. Lists of calls of the plain bus, and what demand 3 counts (00, item 4; 01, "The book").
 -- Assumes nothing.
 use Prim.Native.Nat.{ℕ, _+_}
 use mathlib.Core.List.{List, [], _∷_}

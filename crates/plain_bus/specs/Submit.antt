@@ -1,4 +1,4 @@
--- Submitting a buffer, one step an item (01, "Handing in").
+-- Believed. Submitting a buffer, one step an item (01, "Handing in").
 -- Assumes nothing.
 use Prim.Native.Nat.{ℕ, _-_}
 use mathlib.Core.List.{List, [], _∷_, _++_}

@@ -1,4 +1,5 @@
--- One pass over the pending frames: it tests whether state and slots are valid and finds the winner, both in one number, the key.
+-- Internal. One pass over the pending frames: it tests whether state and slots are valid and finds the winner, both in one number, the
+-- key.
 -- Assumes nothing.
 use Prim.Native.Nat.{ℕ, zero, suc, _+_, _*_, _-_, _/_, _%_}
 use mathlib.Core.List.{List}

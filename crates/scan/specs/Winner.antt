@@ -1,4 +1,4 @@
--- The winner by its rank and its place, found from the state and the slots alone (01, "One round").
+-- Internal. The winner by its rank and its place, found from the state and the slots alone (01, "One round").
 -- Assumes nothing.
 use Prim.Native.Nat.{ℕ, zero, suc, _+_, _*_, _<_}
 use mathlib.Core.List.{List}

@@ -1,4 +1,4 @@
--- The pending slot (01: a place): what a slot holds of a Transmit.
+-- Believed. The pending slot (01: a place): what a slot holds of a Transmit.
 -- Assumes nothing.
 use Prim.Native.Nat.{ℕ}
 use mathlib.Core.Bool.{Bool, false, cond}

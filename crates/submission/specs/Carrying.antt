@@ -1,4 +1,4 @@
--- Carrying a submitted buffer out, once every step of it can be done: what each step leaves of the memory (01, "Handing in").
+-- Internal. Carrying a submitted buffer out, once every step of it can be done: what each step leaves of the memory (01, "Handing in").
 -- Assumes nothing.
 use Prim.Native.Nat.{ℕ, zero, suc, _+_, _*_}
 use mathlib.Core.List.{List, [], _∷_}

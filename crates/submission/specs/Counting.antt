@@ -1,5 +1,5 @@
--- Submitting a buffer, as far as the state goes: every refusal and every change of the state is decided by statuses, counts and fills
--- alone (01, "Handing in"). The lent memory takes no part.
+-- Internal. Submitting a buffer, as far as the state goes: every refusal and every change of the state is decided by statuses, counts and
+-- fills alone (01, "Handing in"). The lent memory takes no part.
 -- Assumes nothing.
 use Prim.Native.Nat.{ℕ, zero, suc, _+_, _*_}
 use mathlib.Core.List.{List, [], _∷_}

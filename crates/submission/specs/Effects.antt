@@ -1,4 +1,4 @@
--- What an item of a submitted buffer does (01, "Handing in"): told by the item alone, apart from the state it meets.
+-- Internal. What an item of a submitted buffer does (01, "Handing in"): told by the item alone, apart from the state it meets.
 -- Assumes nothing.
 use Prim.Native.Nat.{ℕ, _-_, _≤_, _<_}
 use mathlib.Core.Path.{_≡_}

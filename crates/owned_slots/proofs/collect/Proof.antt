@@ -45,7 +45,7 @@ use denote.Exit.{yes}
 use Rattle.slots.specs.declared.Slot.{Slot}
 use Rattle.slots.proofs.Slot as T
 use Rattle.lent_slots.proofs.Element.{Slots, tells, typed-all, values}
-use Rattle.lent_slots.proofs.Called.{lentAt, sliceOf, ShrSlots}
+use Rattle.lent_slots.proofs.Called.{lentAt, sliceOf, ShrSlots, says-both}
 use Rattle.lent_slots.proofs.Local.{lends-local-shared, local-shared-back}
 use Rattle.bus_state.specs.declared.State.{State}
 use Rattle.bus_state.specs.Memory.{held}
@@ -54,9 +54,7 @@ use Rattle.bus_model.specs.Calls.{collectIn, bufferAfter}
 use Rattle.outcome.specs.declared.Answer.{Answer}
 use Rattle.outcome.proofs.Answer as An
 use Rattle.bus.specs.Left.{left, leaves}
-use Rattle.kettlefrost.proofs.Answered.{says-both}
-use Rattle.kettlefrost.proofs.Rows.{answer-makes, answer-typed}
-use Rattle.lent_scan.proofs.Values.{IsState, state-makes, state-tells, state-typed, stateVal, stateVals}
+use Rattle.lent_scan.proofs.Values.{IsState, answer-makes, answer-typed, state-makes, state-tells, state-typed, stateVal, stateVals}
 use Rattle.kettlefrost.proofs.kf_collect as main
 use Rattle.kettlefrost.proofs.kf_collect.Symbol as main-def
 use Rattle.kettlefrost.proofs.kf_collect.Symbol.{name as #kf-collect}

@@ -56,8 +56,7 @@ use Rattle.outcome.specs.declared.Answer.{Answer}
 use Rattle.outcome.proofs.Answer as An
 use Rattle.plain_bus.specs.Round.{injectionFrom}
 use Rattle.bus.specs.Left.{left, leaves}
-use Rattle.kettlefrost.proofs.Rows.{answer-makes, answer-typed}
-use Rattle.lent_scan.proofs.Values.{IsState, state-makes, state-tells, state-typed, stateVal, stateVals}
+use Rattle.lent_scan.proofs.Values.{IsState, answer-makes, answer-typed, state-makes, state-tells, state-typed, stateVal, stateVals}
 use Rattle.owned_slots.specs.declared.Owned.{Owned}
 use Rattle.owned_slots.specs.WithSlots.{withSlots}
 use Rattle.owned_slots.proofs.Owned as R

@@ -54,11 +54,11 @@ use Rattle.bus_model.specs.Calls.{startIn}
 use Rattle.outcome.specs.declared.Answer.{Answer}
 use Rattle.outcome.proofs.Answer as An
 use Rattle.bus.specs.Left.{left, leaves}
-use Rattle.kettlefrost.proofs.Rows.{answer-makes, answer-typed}
 use Rattle.owned_slots.specs.declared.Owned.{Owned}
 use Rattle.owned_slots.specs.WithSlots.{withSlots}
 use Rattle.owned_slots.proofs.Owned as R
 use Rattle.owned_slots.proofs.Owned.Laws as R′
+use Rattle.lent_scan.proofs.Values.{answer-makes, answer-typed}
 use Rattle.kettlefrost.proofs.kf_start as main
 use Rattle.kettlefrost.proofs.kf_start.Symbol as main-def
 use Rattle.kettlefrost.proofs.kf_start.Symbol.{name as #kf-start}
