@@ -118,7 +118,8 @@ plain-accepted : (count : ℕ) → isDone (start count .answer) ≡ true → sta
 unfolding start
 plain-accepted count = go (leb 2 count && leb count 8)
   where
-    go : (t : Bool) → let a = cond t (gives accepted (newBus count)) (refuses badNodeCount (newBus 0)) .answer in isDone a ≡ true → a ≡ accepted
+    go : (t : Bool) → let a = cond t (gives accepted (newBus count)) (refuses badNodeCount (newBus 0)) .answer in isDone a ≡ true
+        → a ≡ accepted
     go true e = refl
     go false e = false-is-true e
 

@@ -137,7 +137,8 @@ started-by slots payload queues count =
             ap (λ (x : Left). x .slots) e,
           );
       freed = λ z. start-frees m count (start-accepted m count z);
-      same = λ z. subst (SameAs (start count) (l .answer) []) (sym (start-memory m count)) (start-same m count (start-accepted m count z));
+      same = λ z. subst (SameAs (start count) (l .answer) []) (sym (start-memory m count)) (start-same m count
+          (start-accepted m count z));
     }
 
 pub started : (slots : List Slot) (payload queues : List ℕ) (count : ℕ) (l : Left)

@@ -83,11 +83,18 @@ others (R ∷ R′ ∷ Rs) = Rs
 module _ (M : Type 1) (T : Ended) (ρ : Routine) where
   -- what follows from a statement that holds
   follows : (F P : Statement T) → Holds M T ρ F
-      → ((κs : Lfts (T .signature .lifetimes)) (a : Args (T .signature) κs) (r : Res (T .signature) κs) (e : AtExit T κs) → F κs a r e → P κs a r e)
+      → ((κs : Lfts (T .signature .lifetimes)) (a : Args (T .signature) κs) (r : Res (T .signature) κs) (e : AtExit T κs)
+      → F κs a r e → P κs a r e)
       → Holds M T ρ P
   follows F P met h 𝓤 H 𝓜 𝓖 𝓡 =
-      weaken 𝓤 H (𝓖 .A) T (givenOf 𝓤 H 𝓜 𝓖) (λ κs a. record { ghost = Unit {0}; requires = λ g. emp 𝓤; ensures = λ g r e. fact 𝓤 (F κs a r e) })
-      (λ κs a g r e. fact 𝓤 (P κs a r e)) (λ κs a g r ws. fact-mono 𝓤 (F κs a r (atExit T κs a ws)) (P κs a r (atExit T κs a ws)) (h κs a r (atExit T κs a ws)))
+      weaken 𝓤 H (𝓖 .A) T (givenOf 𝓤 H 𝓜 𝓖) (λ κs a. record {
+        ghost = Unit {0};
+        requires = λ g. emp 𝓤;
+        ensures = λ g r e. fact 𝓤
+            (F κs a r e);
+      })
+      (λ κs a g r e. fact 𝓤 (P κs a r e)) (λ κs a g r ws. fact-mono 𝓤 (F κs a r (atExit T κs a ws)) (P κs a r (atExit T κs a ws))
+      (h κs a r (atExit T κs a ws)))
       (𝓡 .run ρ) (routine-mono 𝓤 H 𝓜 𝓡 ρ) (met 𝓤 H 𝓜 𝓖 𝓡)
 
   -- the same of a contract with two clauses
@@ -102,7 +109,8 @@ module _ (M : Type 1) (T : Ended) (ρ : Routine) where
       }))
 
   follows-both : (F G P : Statement T) → HoldBoth F G
-      → ((κs : Lfts (T .signature .lifetimes)) (a : Args (T .signature) κs) (r : Res (T .signature) κs) (e : AtExit T κs) → F κs a r e → G κs a r e → P κs a r e)
+      → ((κs : Lfts (T .signature .lifetimes)) (a : Args (T .signature) κs) (r : Res (T .signature) κs) (e : AtExit T κs)
+      → F κs a r e → G κs a r e → P κs a r e)
       → Holds M T ρ P
   follows-both F G P met h 𝓤 H 𝓜 𝓖 𝓡 =
       weaken 𝓤 H (𝓖 .A) T (givenOf 𝓤 H 𝓜 𝓖)
@@ -111,7 +119,8 @@ module _ (M : Type 1) (T : Ended) (ρ : Routine) where
       (𝓡 .run ρ) (routine-mono 𝓤 H 𝓜 𝓡 ρ) (met 𝓤 H 𝓜 𝓖 𝓡)
 
 module _ (M : Type 1) (T : Ended) (ρ : Routine) (Φ : (κs : Lfts (T .signature .lifetimes)) → Args (T .signature) κs → Type 0)
-    (learns : (𝓤 : URA M) (H : Heap 𝓤) (A : Atoms 𝓤) (W : Given 𝓤 H A) (κs : Lfts (T .signature .lifetimes)) (qs : Shares (T .signature .lifetimes)) (a : Args (T .signature) κs) (vss : Vals (T .signature) κs)
+    (learns : (𝓤 : URA M) (H : Heap 𝓤) (A : Atoms 𝓤) (W : Given 𝓤 H A) (κs : Lfts (T .signature .lifetimes)) (qs : Shares
+    (T .signature .lifetimes)) (a : Args (T .signature) κs) (vss : Vals (T .signature) κs)
     → ent 𝓤 (onEntry 𝓤 H A (T .signature) κs qs a vss) (H .⇛ (sep 𝓤 (onEntry 𝓤 H A (T .signature) κs qs a vss) (fact 𝓤 (Φ κs a))))) where
   -- a fact that the parameters show on entry is in hand
   entered : (P : Statement T) → Holds M T ρ (λ κs a r e. Φ κs a → P κs a r e) → Holds M T ρ P
@@ -120,7 +129,12 @@ module _ (M : Type 1) (T : Ended) (ρ : Routine) (Φ : (κs : Lfts (T .signature
       let W = givenOf 𝓤 H 𝓜 𝓖 in
       let E : SProp 𝓤 = onEntry 𝓤 H A (T .signature) (y .0 .0) (y .0 .1) (y .0 .3) (y .0 .4) in
       let φ : Type 0 = Φ (y .0 .0) (y .0 .3) in
-      let under : Meets 𝓤 H A (T .signature) (𝓡 .run ρ) (closing 𝓤 H A T (λ κs a. record { ghost = Unit {0}; requires = λ g. fact 𝓤 (Φ κs a); ensures = λ g r e. fact 𝓤 (P κs a r e) })) =
+      let under : Meets 𝓤 H A (T .signature) (𝓡 .run ρ) (closing 𝓤 H A T (λ κs a. record {
+        ghost = Unit {0};
+        requires = λ g. fact 𝓤
+            (Φ κs a);
+        ensures = λ g r e. fact 𝓤 (P κs a r e);
+      })) =
       weaken-under 𝓤 H A T W
       (λ κs a. record { ghost = Unit {0}; requires = λ g. emp 𝓤; ensures = λ g r e. fact 𝓤 (Φ κs a → P κs a r e) })
       (λ κs a. record { ghost = Unit {0}; requires = λ g. fact 𝓤 (Φ κs a); ensures = λ g r e. fact 𝓤 (P κs a r e) })

@@ -65,7 +65,8 @@ entry-at (d ∷ ds) (u ∷ us) g (suc j) l = entry-at ds us (g .1) j (omega (ari
 
 -- ---- a memory
 
-pub memory-typed : (s : State) (vs : List Val) (ys : List Slot) (ps qs : List ℕ) → Is St.the-row s vs → TypedSlots ys → lentWell (held s ys ps qs) ≡ true
+pub memory-typed : (s : State) (vs : List Val) (ys : List Slot) (ps qs : List ℕ) → Is St.the-row s vs → TypedSlots ys → lentWell
+    (held s ys ps qs) ≡ true
     → TypedMemory (held s ys ps qs)
 unfolding lentWell
 memory-typed s vs ys ps qs g t e =
@@ -91,4 +92,12 @@ pub flat-typed : (f : FlatOperation) (vs : List Val) → Is F.the-row f vs → T
 flat-typed f vs g =
     let p = g .1 .1 .1 in
     let q = p .1 .1 .1 in
-    record { id = p .0 .1; word = p .1 .0 .1; length = p .1 .1 .0 .1; first = q .0 .1; second = q .1 .0 .1; third = q .1 .1 .0 .1; fourth = q .1 .1 .1 .0 .1 }
+    record {
+      id = p .0 .1;
+      word = p .1 .0 .1;
+      length = p .1 .1 .0 .1;
+      first = q .0 .1;
+      second = q .1 .0 .1;
+      third = q .1 .1 .0 .1;
+      fourth = q .1 .1 .1 .0 .1;
+    }

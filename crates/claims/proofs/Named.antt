@@ -45,12 +45,24 @@ module _ (f : FlatOperation) (op : Operation) where
   Back k = byKind k f ≡ Known op → flat op ≡ cleared k f
 
   -- the row of a kind, from what it names
-  row : (k : Kind) (code : ℕ) {o : Operation} → byKind k f ≡ Known o → flat o ≡ record { code = code; id = cleared k f .id; word = cleared k f .word; length = cleared k f .length; first = cleared k f .first; second = cleared k f .second; third = cleared k f .third; fourth = cleared k f .fourth }
+  row : (k : Kind) (code : ℕ) {o : Operation} → byKind k f ≡ Known o
+      → flat o ≡ record {
+        code = code;
+        id = cleared k f .id;
+        word = cleared k f .word;
+        length = cleared k f .length;
+        first = cleared k
+            f .first;
+        second = cleared k f .second;
+        third = cleared k f .third;
+        fourth = cleared k f .fourth;
+      }
       → cleared k f .code ≡ f .code → f .code ≡ code → Back k
   row k code {o} e t same q h =
       let is : o ≡ op = known-same (sym e ∙ h) in
       sym (ap flat is) ∙ t
-      ∙ ap (λ (c : ℕ). flatRow c (cleared k f .id) (cleared k f .word) (cleared k f .length) (cleared k f .first) (cleared k f .second) (cleared k f .third) (cleared k f .fourth)) (sym (same ∙ q))
+      ∙ ap (λ (c : ℕ). flatRow c (cleared k f .id) (cleared k f .word) (cleared k f .length) (cleared k f .first)
+      (cleared k f .second) (cleared k f .third) (cleared k f .fourth)) (sym (same ∙ q))
 
   pub flat-named : named f ≡ Known op → flat op ≡ clear f
   unfolding named
@@ -78,7 +90,8 @@ module _ (f : FlatOperation) (op : Operation) where
       go formatError = of (FormatError (f .length)) (t .length)
       go can = of (CanTransmit (f .id) (f .first) (f .second) (f .length)) (t .id, t .first, t .second, t .length)
       go fd = of (FdTransmit (f .id) (f .first) (f .second) (f .third) (f .length)) (t .id, t .first, t .second, t .third, t .length)
-      go xl = of (XlTransmit (f .id) (f .first) (f .second) (f .third) (f .fourth) (f .word) (f .length)) (t .id, t .first, t .second, t .third, t .fourth, t .word, t .length)
+      go xl = of (XlTransmit (f .id) (f .first) (f .second) (f .third) (f .fourth) (f .word) (f .length))
+          (t .id, t .first, t .second, t .third, t .fourth, t .word, t .length)
       go confirm = of (Confirm (f .id)) (t .id)
       go arbitrationLost = of (ArbitrationLost (f .id)) (t .id)
       go busError = of (BusError (f .id) (f .first) (f .second) (f .third)) (t .id, t .first, t .second, t .third)

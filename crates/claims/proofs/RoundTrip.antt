@@ -92,7 +92,8 @@ written-back f payload buffer t h before rest = go (named f) refl h
         let k = writeAnswer n (length payload) (length buffer) .length in
         ReadsBack (before ++ (take k (bufferAfterWrite n payload buffer) ++ rest)) (length before) f payload k
 
-    known : (op : Operation) → named f ≡ Known op → (w : Written) → writeOutcome op (length payload) (length buffer) ≡ w → writtenNumber w ≡ 0
+    known : (op : Operation) → named f ≡ Known op → (w : Written) → writeOutcome op (length payload) (length buffer) ≡ w
+        → writtenNumber w ≡ 0
         → ReadsBack (before ++ (take (lengthWritten w) (writtenOf op payload buffer) ++ rest)) (length before) f payload (lengthWritten w)
     known op q (Done n) e z =
         let s = before ++ (take n (writtenOf op payload buffer) ++ rest) in
@@ -129,7 +130,8 @@ judge-numbered : (n : ℕ) (h : Shape) → Numbered (judge n h)
 unfolding judge verdict
 judge-numbered n none = omega arith
 judge-numbered n (holds least op) =
-    either (tooShort n least || kindOutside op || lengthNotOfTable n op) (Fault 4 n) (cond (legal op) (Found op n) (Fault 5 n)) (omega arith)
+    either (tooShort n least || kindOutside op || lengthNotOfTable n op) (Fault 4 n) (cond (legal op) (Found op n) (Fault 5 n))
+    (omega arith)
     (either (legal op) (Found op n) (Fault 5 n) tt (omega arith))
 
 front-numbered : (s : List ℕ) → Numbered (front s)
@@ -163,12 +165,15 @@ read-back s at u e z buffer room =
     back (r .0) (r .1) (r .2)
   where
     back : (op : Operation) (next : ℕ) → readAt s at ≡ reading.Read op (cursorAt next)
-        → WritesBack (readIn s at .operation) (dataIn s (readIn s at)) buffer (take (readIn s at .next - at) (drop at s)) (readIn s at .next - at)
+        → WritesBack (readIn s at .operation) (dataIn s (readIn s at)) buffer (take (readIn s at .next - at) (drop at s))
+        (readIn s at .next - at)
     back op next q =
         let a = read-as s at op next q in
         let w = read-writes s at next op u q .1 buffer (subst (λ (x : ReadAnswer). x .next - at ≤ length buffer) a room) in
-        subst (λ (x : ReadAnswer). WritesBack (x .operation) (dataIn s (readIn s at)) buffer (take (x .next - at) (drop at s)) (x .next - at)) (sym a)
-        (subst (λ (l : List ℕ). WritesBack (flat op) l buffer (take (next - at) (drop at s)) (next - at)) (sym (data-as s at op next q)) (bytes-as op next w))
+        subst (λ (x : ReadAnswer). WritesBack (x .operation) (dataIn s (readIn s at)) buffer (take (x .next - at) (drop at s))
+        (x .next - at)) (sym a)
+        (subst (λ (l : List ℕ). WritesBack (flat op) l buffer (take (next - at) (drop at s)) (next - at)) (sym
+        (data-as s at op next q)) (bytes-as op next w))
       where
         bytes-as : (op : Operation) (next : ℕ) → WritesAs op (dataAt s op next) buffer (take (next - at) (drop at s)) (next - at)
             → WritesBack (flat op) (dataAt s op next) buffer (take (next - at) (drop at s)) (next - at)
@@ -209,13 +214,15 @@ unfolding writeOutcome decision firstRow
 write-number Unknown given room = refl
 write-number (Known op) given room = go (canWrite (Known op) given) (fitsIn (Known op) room)
   where
-    go : (t u : Bool) → writtenNumber (cond t (cond u (Done (lengthOf op)) BufferTooSmall) RuleBroken) ≡ cond (not t) 7 (cond (not u) 11 0)
+    go : (t u : Bool) → writtenNumber (cond t (cond u (Done (lengthOf op)) BufferTooSmall) RuleBroken) ≡ cond (not t) 7 (cond
+        (not u) 11 0)
     go true true = refl
     go true false = refl
     go false u = refl
 
 -- what an answer of the encoder leaves of a buffer
-outcome-kept : (w : Written) (bytes buffer : List ℕ) → (writtenNumber w ≡ 0 → ⊥) → (lengthWritten w ≡ 0) × (bufferWritten w bytes buffer ≡ buffer)
+outcome-kept : (w : Written) (bytes buffer : List ℕ) → (writtenNumber w ≡ 0 → ⊥) → (lengthWritten w ≡ 0) ×
+    (bufferWritten w bytes buffer ≡ buffer)
 outcome-kept (Done n) bytes buffer k = absurd (k refl)
 outcome-kept RuleBroken bytes buffer k = (refl, refl)
 outcome-kept BufferTooSmall bytes buffer k = (refl, refl)
