@@ -1,9 +1,9 @@
 #!/usr/bin/env python3
-"""Prints what a reader has to believe: the files of definitions that the claims name, and those behind them.
+"""Prints what a reader has to believe: the definitions that the claims name, and those behind them.
 
 The first word of a file in crates/*/specs says what it is:
   Believed   the claims (crates/claims/specs) name it, or a believed file does
-  Contract   a contract of an exported call names it; the claims hold such a call to believed files alone
+  Contract   a contract of an exported call names it, and no claim does
   Examples   tables that are computed
   Internal   contracts of internal functions and proofs name it
 Fails where a file is not what its first word says. Ends with the line 'believed: N checks'.
@@ -16,7 +16,9 @@ ROOT = pathlib.Path(__file__).resolve().parent.parent
 CLAIMS = ["crates/claims/specs/Exported.antt", "crates/claims/specs/Demands.antt"]
 CONTRACTS = ["crates/kettlefrost/src/lib.rt", "crates/kettlefrost/src/register.rt"]
 WORDS = ["Believed", "Contract", "Examples", "Internal"]
-USE = re.compile(r"^\s*(?:ghost )?use Rattle·(\w+?)(?:·specs)?\.specs\.(?:specs\.)?([\w.]+?)(?:\.\{.*\}| as [\w-]+);?$", re.M)
+USE = re.compile(
+    r"^\s*(?:ghost )?use Rattle·(\w+?)(?:·specs)?\.specs\.(?:specs\.)?([\w.]+?)"
+    r"(?:\.\{.*\}| as [\w-]+);?$", re.M)
 
 
 def cited(path):
@@ -71,7 +73,8 @@ def lines(path):
 def declaration(crate, name):
     """The lines of a struct or an enum in src."""
     for path in sorted((ROOT / "crates" / crate / "src").rglob("*.rt")):
-        found = re.search(rf"^pub (?:struct|enum) {name} \{{.*?^\}}", path.read_text(encoding="utf-8"), re.M | re.S)
+        text = path.read_text(encoding="utf-8")
+        found = re.search(rf"^pub (?:struct|enum) {name} \{{.*?^\}}", text, re.M | re.S)
         if found:
             return len(found[0].splitlines())
     return 0
@@ -85,10 +88,12 @@ def main():
     pinned = closure(contracts)[0] - believed
     size = sum(lines(path) for path in believed)
     declared = sum(declaration(*one) for one in types)
-    print(f"believed: {len(believed)} files, {size} lines, and {len(types)} declarations of src, {declared} lines")
+    print(f"believed: {len(believed)} files, {size} lines, "
+          f"and {len(types)} declarations of src, {declared} lines")
     for path in sorted(believed):
         print(f"  {lines(path):4} {path.relative_to(ROOT)}")
-    print(f"named by exported contracts besides: {len(pinned)} files, {sum(lines(path) for path in pinned)} lines")
+    size = sum(lines(path) for path in pinned)
+    print(f"named by exported contracts besides: {len(pinned)} files, {size} lines")
     for path in sorted(pinned):
         print(f"  {lines(path):4} {path.relative_to(ROOT)}")
     checks = 0
@@ -98,7 +103,11 @@ def main():
             continue
         word = re.match(r"-- (\w+)\.", path.read_text(encoding="utf-8"))
         word = word[1] if word else "nothing"
-        right = ["Believed"] if path in believed else ["Contract"] if path in pinned else ["Examples", "Internal"]
+        right = ["Examples", "Internal"]
+        if path in believed:
+            right = ["Believed"]
+        elif path in pinned:
+            right = ["Contract"]
         checks += 1
         if word not in right:
             wrong.append(f"{path.relative_to(ROOT)} says {word}, and is {' or '.join(right)}")

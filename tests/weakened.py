@@ -1,9 +1,10 @@
 #!/usr/bin/env python3
-"""Weakens the contract of every exported call in a copy, a clause at a time, and sees the claims refuse each.
+"""Weakens the contract of every exported call, a clause at a time, and sees the claims refuse it.
 
-A must-fail edit proves its own crate again and no other, so that the claims lean on the contracts of kettlefrost is tried here. In a copy of
-the crates each exported call promises what it promises, or nothing: 'P' becomes 'P or true', and its proof gives the left case. Where the
-checker finds the proof by itself, 'P' becomes 'r is r'. Then kettlefrost is still proved, and claims is refused at every call.
+A must-fail edit proves its own crate again and no other, so that the claims lean on the contracts
+of kettlefrost is tried here, in a copy. There each exported call promises what it promises, or
+nothing: 'P' becomes 'P or true', and its proof gives the left case. Where the checker finds the proof by
+itself, 'P' becomes 'r is r'. Then kettlefrost is still proved, and claims is refused at every call.
 Ends with the line 'weakened: N checks'.
 """
 import pathlib
@@ -16,7 +17,8 @@ import tempfile
 ROOT = pathlib.Path(__file__).resolve().parent.parent
 EXPORTED = re.compile(r'extern "C" fn (\w+)\(')
 CLAUSE = re.compile(r"(ensures [^{]*\{ λ \w+\. ⌜ )(.*)( ⌝ \})")
-# What a proof answers at a return; and how a walk ends, by the number of clauses and the one that is weakened.
+# What a proof answers at a return; and how a walk ends, by the number of clauses and the one that
+# is weakened.
 RETURNS = re.compile(r"^(returns(?:-\d+)? c =)(.*?)(?=\n\n)", re.M | re.S)
 WALKED = {
     (1, 0): ("says ! e $", "says ! (inl e) $"),
@@ -66,7 +68,7 @@ def weaken(crate, clause):
             proof = crate / "proofs" / module / name / "Proof.antt"
             here = found[clause]
             weaker = f"({here[2]}) ⊎ Unit {{0}}" if proof.is_file() else "r ≡ r"
-            text = text[: here.start(2)] + weaker + text[here.end(2) :]
+            text = text[:here.start(2)] + weaker + text[here.end(2):]
             if proof.is_file():
                 weaken_proof(proof, (len(found), clause))
         source.write_text(text, encoding="utf-8")
@@ -76,7 +78,8 @@ def weaken(crate, clause):
 
 
 def check(copy, crate):
-    run = subprocess.run(["rt", "check", crate], cwd=copy, text=True, stdout=subprocess.PIPE, stderr=subprocess.STDOUT, check=False)
+    run = subprocess.run(["rt", "check", crate], cwd=copy, text=True, check=False,
+                         stdout=subprocess.PIPE, stderr=subprocess.STDOUT)
     return run.returncode == 0, run.stdout
 
 
@@ -86,7 +89,8 @@ def refused(log, law):
     start = text.index(f"  {law} :")
     first = text.count("\n", 0, start) + 1
     last = first + text[start:].split("\n\n")[0].count("\n")
-    return any(first <= int(line) <= last for line in re.findall(r"proofs/Exported\.antt:(\d+):\d+:", log))
+    errors = re.findall(r"proofs/Exported\.antt:(\d+):\d+:", log)
+    return any(first <= int(line) <= last for line in errors)
 
 
 def try_clause(clause):
@@ -95,11 +99,13 @@ def try_clause(clause):
         shutil.copy(ROOT / "crates.txt", copy)
         shutil.copytree(ROOT / "crates", copy / "crates")
         if (ROOT / "target").is_dir():
-            shutil.copytree(ROOT / "target", copy / "target", ignore=shutil.ignore_patterns("must-fail", "staticlib", "bin"))
+            shutil.copytree(ROOT / "target", copy / "target",
+                            ignore=shutil.ignore_patterns("must-fail", "staticlib", "bin"))
         names = weaken(copy / "crates/kettlefrost", clause)
         proved, out = check(copy, "kettlefrost")
         if not proved:
-            print("\n".join(line for line in out.splitlines() if "error" in line or "not admitted" in line))
+            print("\n".join(line for line in out.splitlines()
+                            if "error" in line or "not admitted" in line))
             sys.exit("weakened: kettlefrost is not proved with the weaker contracts")
         proved, out = check(copy, "claims")
         log = (copy / "target/log/claims.out").read_text(encoding="utf-8")
