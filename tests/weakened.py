@@ -3,8 +3,9 @@
 
 A must-fail edit proves its own crate again and no other, so that the claims lean on the contracts
 of kettlefrost is tried here, in a copy. There each exported call promises what it promises, or
-nothing: 'P' becomes 'P or true', and its proof gives the left case. Where the checker finds the proof by
-itself, 'P' becomes 'r is r'. Then kettlefrost is still proved, and claims is refused at every call.
+nothing: 'P' becomes 'P or true', and its proof gives the left case. Where the checker finds the
+proof by itself, 'P' becomes 'r is r'. Then kettlefrost is still proved, and claims is refused at
+every call.
 Ends with the line 'weakened: N checks'.
 """
 import pathlib
