@@ -63,7 +63,6 @@ use Rattle.outcome.specs.Outcome.{answerOf, ended, endedBy}
 use Rattle.outcome.proofs.Answer as An
 use Rattle.arbitration.specs.Injections.{injectionFrom}
 use Rattle.bus.specs.Left.{left, leaves, Taken}
-use Rattle.outcome.specs.declared.Change.{Change}
 use Rattle.outcome.proofs.Change as Ch
 use Rattle.lent_scan.proofs.scan as scan
 use Rattle.lent_scan.proofs.scan.Symbol as scan-def
@@ -188,11 +187,6 @@ module _ {M : Type 1} (𝓤 : URA M) (H : Heap 𝓤) (A : Atoms 𝓤) (W : Given
       (injectionFrom injected error detector))
   refused-as a h e = ap (λ (z : Answer). left z ys ps qs) e ∙ sym (ap leaves (wrong-round (held s ys ps qs) h
       (injectionFrom injected error detector)))
-
-  -- what the call by value ensures, of all slots that it may be made on
-  abbrev Ended : ℕ → List Slot → List ℕ → Change → List ℕ → List ℕ → Type 0
-  Ended key four ids c ps′ qs′ = (a : List Slot) → Taken s key four ids a → endedBy c a ps′ qs′ ≡ ended (roundIn (held s a ps qs)
-      (injectionFrom injected error detector))
 
   -- what the call by value binds outside its triple, and that the caller has what it asks
   abbrev κs′ : Lfts 2

@@ -63,7 +63,6 @@ use Rattle.outcome.specs.declared.Outcome.the-variants.{WrongMemory}
 use Rattle.outcome.specs.Outcome.{answerOf, ended, endedBy}
 use Rattle.outcome.proofs.Answer as An
 use Rattle.bus.specs.Left.{left, leaves, Scanned}
-use Rattle.outcome.specs.declared.Change.{Change}
 use Rattle.outcome.proofs.Change as Ch
 use Rattle.lent_scan.proofs.scan as scan
 use Rattle.lent_scan.proofs.scan.Symbol as scan-def
@@ -178,11 +177,6 @@ module _ {M : Type 1} (𝓤 : URA M) (H : Heap 𝓤) (A : Atoms 𝓤) (W : Given
   refused-as : (a : Answer) → (length ys ≡ 32 → ⊥) → a ≡ answerOf WrongMemory s → left a ys ps qs ≡ leaves (submitIn
       (held s ys ps qs) node bs)
   refused-as a h e = ap (λ (z : Answer). left z ys ps qs) e ∙ sym (ap leaves (wrong-submit (held s ys ps qs) h node bs))
-
-  -- what the call by value ensures, of all slots that it may be made on
-  abbrev Ended : ℕ → List Slot → Change → List ℕ → List ℕ → Type 0
-  Ended key four c ps′ qs′ = (a : List Slot) → Scanned s key a → blockAt a (firstSlot node) ≡ four → endedBy c a ps′ qs′ ≡ ended (submitIn
-      (held s a ps qs) node bs)
 
   -- what the call by value binds outside its triple, and that the caller has what it asks
   abbrev κs′ : Lfts 3
