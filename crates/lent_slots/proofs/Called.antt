@@ -103,6 +103,10 @@ lentAt b o γ ys = record { ptr = (b, o); name = γ; now = ys }
 abbrev pub sliceOf : ℕ → ℕ → List Slot → Val
 sliceOf b o ys = sliceVal (b, o) (length ys)
 
+-- the machine value of any lent slice
+abbrev pub lentVal : {X : Type 0} → RefT (List X) → Val
+lentVal x = sliceVal (x .ptr) (length (x .now))
+
 abbrev pub MutSlots : Lft → ℕ → ℕ → GName → List Slot → Fml
 MutSlots κ b o γ ys = MutSlice (named 0) κ T.the-row .own (lentAt b o γ ys) (sliceOf b o ys ∷ [])
 

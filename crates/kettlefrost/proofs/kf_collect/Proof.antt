@@ -13,7 +13,6 @@ use prog.Memory.{Memory}
 use prog.Routine.{Routine}
 use prog.Wp.{Heap, Calls, Loops, WpFn, Tables}
 use ghost.Atoms.{Atoms}
-use contract.Lifetimes.{Lfts}
 use contract.Monad.{Fun}
 use contract.Running.{givenOf, tables, tablesOf}
 use types.Kit.{Given, Item, ‵, raw, _⊛_, ⋆, _$_, _∵_, !, qed, by, move, drop, use3, split, join, fsplit, fjoin, feqL, suffices, frame, done}
@@ -26,7 +25,7 @@ use denote.Laws.{Is}
 use denote.Plain.{uint-vals, uint-tells, uint-makes}
 use denote.Builtin.{u8, u32, u64, usize}
 use denote.Ref.{RefT}
-use denote.Slice.{sliceVal, MutSlice, ShrSlice, Room, finally, slice-vals, mut-slice-tells, shr-slice-tells}
+use denote.Slice.{MutSlice, ShrSlice, Room, finally, slice-vals, mut-slice-tells, shr-slice-tells}
 use denote.Signature.{plain, shrSliceOf}
 use denote.Steps.{owned, nothing}
 use denote.Triple.Call.{calls-at}
@@ -47,10 +46,9 @@ use Rattle.outcome.specs.declared.Answer.{Answer}
 use Rattle.outcome.proofs.Answer as An
 use Rattle.bus.specs.Left.{left, leaves}
 use Rattle.bus.specs.Given.{Counted}
-use Rattle.lent_slots.proofs.Called.{hears-both, looks-freely, says-both}
+use Rattle.lent_slots.proofs.Called.{hears-both, lentAt, lentVal, looks-freely, says-both, sliceOf}
 use Rattle.lent_slots.proofs.Freed.{_&_, allocs-all, full, behind, frees-all, here}
-use Rattle.lent_scan.proofs.Values.{answer-makes, answer-typed, IsState, state-makes, state-tells, state-typed, stateVal, stateVals}
-use Rattle.lent_scan.proofs.Values.{word-typed}
+use Rattle.lent_scan.proofs.Values.{answer-makes, answer-typed, state-makes, state-tells, state-typed, stateVal, stateVals, word-typed}
 use Rattle.lent_scan.proofs.key as key
 use Rattle.lent_scan.proofs.key.Symbol as key′
 use Rattle.lent_scan.proofs.key.Met as key-thm
@@ -63,11 +61,10 @@ use Rattle.kettlefrost.proofs.kf_collect.Statement as stated
 use Rattle.kettlefrost.proofs.kf_collect.Code as code
 
 abbrev stayed : Stays (call.ended .signature .params) (call.ended .kept)
-stayed = stay-dropped _ yes & stay-dropped _ yes & stay-dropped _ yes & stay-dropped _ yes & stay-dropped _ yes
+stayed = stay-dropped _ _ & stay-dropped _ _ & stay-dropped _ _ & stay-dropped _ _ & stay-dropped _ _
     & gave-slice (3 ∷ []) tt (plain (λ _. u8)) & tt
 
 module _ {M : Type 1} (𝓤 : URA M) (H : Heap 𝓤) (A : Atoms 𝓤) (mem : Memory → SProp 𝓤) (run : Routine → Fun 𝓤) where
-  -- the contracts that the proof cites
   abbrev Key : Contract 𝓤
   Key = tripleOf 𝓤 H A key.signature (key.spec 𝓤 H A mem run)
 
@@ -76,32 +73,17 @@ module _ {M : Type 1} (𝓤 : URA M) (H : Heap 𝓤) (A : Atoms 𝓤) (mem : Mem
 
 module _ {M : Type 1} (𝓤 : URA M) (H : Heap 𝓤) (A : Atoms 𝓤) (W : Given 𝓤 H A) (mem : Memory → SProp 𝓤) (run : Routine → Fun 𝓤)
     (κ₀ κ₁ κ₂ κ₃ : Lft) (q₀ q₁ q₂ q₃ : Share) (b o : ℕ) (γ : GName) (s : State) (ys : List Slot) (ps qs : RefT (List ℕ)) (node : ℕ)
-    (bs : RefT (List ℕ)) (g-s : IsState s) (g-ys : Room T.the-row (length ys)) (g-ps : Room u8 (length (ps .now)))
+    (bs : RefT (List ℕ)) (g-s : Is St.the-row s (stateVals s)) (g-ys : Room T.the-row (length ys)) (g-ps : Room u8 (length (ps .now)))
     (g-qs : Room u8 (length (qs .now))) (g-node : node < 2 ^ 32) (g-bs : Room u8 (length (bs .now))) where
-  abbrev κs : Lfts 4
-  κs = κ₀ & κ₁ & κ₂ & κ₃ & tt
+  abbrev arg : Args call.signature (κ₀ & κ₁ & κ₂ & κ₃ & tt)
+  arg = s & lentAt b o γ ys & ps & qs & node & bs & tt
 
-  abbrev κs′ : Lfts 3
-  κs′ = κ₁ & κ₂ & κ₃ & tt
-
-  -- the lent slots, and the machine values of what is lent
-  abbrev x-ys : RefT (List Slot)
-  x-ys = record { ptr = (b, o); name = γ; now = ys }
-
-  abbrev v-ys : Val
-  v-ys = sliceVal (b, o) (length ys)
-
-  abbrev bytes : RefT (List ℕ) → Val
-  bytes x = sliceVal (x .ptr) (length (x .now))
-
-  abbrev arg : Args call.signature κs
-  arg = s & x-ys & ps & qs & node & bs & tt
-
-  abbrev at : Vals call.signature κs
-  at = (stateVal s ∷ []) & (v-ys ∷ []) & (bytes ps ∷ []) & (bytes qs ∷ []) & (vint w32 node ∷ []) & (bytes bs ∷ []) & tt
+  abbrev at : Vals call.signature (κ₀ & κ₁ & κ₂ & κ₃ & tt)
+  at = (stateVal s ∷ []) & (sliceOf b o ys ∷ []) & (lentVal ps ∷ []) & (lentVal qs ∷ []) & (vint w32 node ∷ []) & (lentVal bs ∷ []) & tt
 
   abbrev Post : Val → SProp 𝓤
-  Post = walkOf 𝓤 H A call.ended stayed (call.clauses 𝓤 H A mem run) .post ((κs, q₀ & q₁ & q₂ & q₃ & tt, tt, arg, at), tt)
+  Post =
+      walkOf 𝓤 H A call.ended stayed (call.clauses 𝓤 H A mem run) .post ((κ₀ & κ₁ & κ₂ & κ₃ & tt, q₀ & q₁ & q₂ & q₃ & tt, tt, arg, at), tt)
 
   -- what is left, and what is written, of slots a
   abbrev Leaves : List Slot → Answer → Type 0
@@ -115,88 +97,74 @@ module _ {M : Type 1} (𝓤 : URA M) (H : Heap 𝓤) (A : Atoms 𝓤) (W : Given
   Tokens = ‵ (flft κ₁ q₁) ⊛ ‵ (flft κ₂ q₂) ⊛ ‵ (flft κ₃ q₃) ⊛ ‵ ftrue
 
   abbrev Lent : List (Item 𝓤)
-  Lent = Tokens ∷ (‵ (ShrSlice (named 1) κ₁ u8 .own ps (bytes ps ∷ [])) ⊛ ‵ (ShrSlice (named 2) κ₂ u8 .own qs (bytes qs ∷ [])))
-      ∷ ‵ (MutSlice (named 3) κ₃ u8 .own bs (bytes bs ∷ [])) ∷ []
+  Lent = Tokens ∷ (‵ (ShrSlice (named 1) κ₁ u8 .own ps (lentVal ps ∷ [])) ⊛ ‵ (ShrSlice (named 2) κ₂ u8 .own qs (lentVal qs ∷ [])))
+      ∷ ‵ (MutSlice (named 3) κ₃ u8 .own bs (lentVal bs ∷ [])) ∷ []
 
   exits : (r : Answer) (v : Val) → Is An.the-row r (v ∷ []) → (l : List ℕ) → Leaves ys r → Writes ys l → length l ≡ length (bs .now)
       → ent 𝓤 (⋆ 𝓤 H A ((‵ (flft κ₀ q₀) ⊛ Tokens) ∷ ‵ (finally u8 (bs .name) l) ∷ [])) (Post v)
   exits r v is l e f len =
       qed W ((‵ (flft κ₀ q₀) ⊛ Tokens) ∷ ‵ (finally u8 (bs .name) l) ∷ []) ∵
-      suffices ! _ (ends-at 𝓤 H A call.ended stayed (call.clauses 𝓤 H A mem run) W ((κs, q₀ & q₁ & q₂ & q₃ & tt, tt, arg, at), tt) v r
+      suffices ! _ (ends-at 𝓤 H A call.ended stayed (call.clauses 𝓤 H A mem run) W
+      ((κ₀ & κ₁ & κ₂ & κ₃ & tt, q₀ & q₁ & q₂ & q₃ & tt, tt, arg, at), tt) v r
       (tt & tt & tt & tt & tt & l & tt) (tt & tt & tt & tt & tt & len & tt)) $ says-both ! e f $ frame ! $
       nothing ! $ move ! (1 ∷ 0 ∷ []) $ fjoin ! $ nothing ! $ fjoin ! $ nothing ! $ fjoin ! $ nothing ! $ fjoin ! $ nothing ! $ fjoin ! $
       nothing ! $ fjoin ! $ frame ! $ owned ! An.the-row (Is An.the-row) (answer-makes 𝓤 H A) r _ is $ done !
 
   -- what `collect` binds outside its triple, and that the caller has what it asks
-  abbrev main-args : ℕ → Args main.signature κs′
+  abbrev main-args : ℕ → Args main.signature (κ₁ & κ₂ & κ₃ & tt)
   main-args k = s & length ys & k & ps & qs & node & bs & tt
 
-  abbrev to-main : ℕ → Val → Main 𝓤 H A mem run .Ghost
-  to-main k v = (
-    (
-      κs′,
-      q₁ & q₂ & q₃ & tt,
-      tt,
-      main-args k,
-      (stateVal s ∷ []) & (vint w64 (length ys) ∷ []) & (v ∷ []) & (bytes ps ∷ [])
-          & (bytes qs ∷ []) & (vint w32 node ∷ []) & (bytes bs ∷ []) & tt,
-    ),
-    tt,
-  )
+  abbrev main-at : Val → Vals main.signature (κ₁ & κ₂ & κ₃ & tt)
+  main-at v = (stateVal s ∷ []) & (vint w64 (length ys) ∷ []) & (v ∷ []) & (lentVal ps ∷ []) & (lentVal qs ∷ []) & (vint w32 node ∷ [])
+      & (lentVal bs ∷ []) & tt
 
-  goes-main : (k : ℕ) (v : Val) → Is u64 k (v ∷ []) → Counted s (length ys) k ys
-      → ent 𝓤 (⋆ 𝓤 H A Lent) (Main 𝓤 H A mem run .pre (to-main k v))
-  goes-main k v is h =
-      qed W Lent ∵ says ! (ys, h) $ frame ! $ split ! $ nothing ! $ move ! (3 ∷ 0 ∷ []) $ fjoin ! $ owned ! u32 (Is u32) (uint-makes 𝓤 H A W
-      w32) node _ (refl, g-node) $ fjoin ! $ move ! (2 ∷ 0 ∷ []) $ fjoin ! $ move ! (1 ∷ 0 ∷ []) $ fjoin ! $ owned ! u64 (Is u64)
-      (uint-makes 𝓤 H A W w64) k _ is $ fjoin ! $ owned ! usize (Is usize) (uint-makes 𝓤 H A W w64) (length ys) _ (refl, g-ys .0) $ fjoin !
-      $ owned ! St.the-row (Is St.the-row) (state-makes 𝓤 H A) s _ g-s $ fjoin ! $ done !
+  abbrev to-main : ℕ → Val → Main 𝓤 H A mem run .Ghost
+  to-main k v = ((κ₁ & κ₂ & κ₃ & tt, q₁ & q₂ & q₃ & tt, tt, main-args k, main-at v), tt)
+
+  goes : (k : ℕ) (v : Val) → Is u64 k (v ∷ []) → Counted s (length ys) k ys → ent 𝓤 (⋆ 𝓤 H A Lent) (Main 𝓤 H A mem run .pre (to-main k v))
+  goes k v is h =
+      qed W Lent ∵ says ! (ys, h) $ frame ! $ split ! $ nothing ! $ move ! (3 ∷ 0 ∷ []) $ fjoin ! $
+      owned ! u32 (Is u32) (uint-makes 𝓤 H A W w32) node _ (refl, g-node) $ fjoin ! $ move ! (2 ∷ 0 ∷ []) $ fjoin ! $
+      move ! (1 ∷ 0 ∷ []) $ fjoin ! $ owned ! u64 (Is u64) (uint-makes 𝓤 H A W w64) k _ is $ fjoin ! $
+      owned ! usize (Is usize) (uint-makes 𝓤 H A W w64) (length ys) _ (refl, g-ys .0) $ fjoin ! $
+      owned ! St.the-row (Is St.the-row) (state-makes 𝓤 H A) s _ g-s $ fjoin ! $ done !
 
   module _ (C : Calls 𝓤 H) (Λ : Loops 𝓤 H) (fm : FmC 𝓤 H (W .laws) C) (known-key : Triple 𝓤 (C key′.name) (Key 𝓤 H A mem run))
       (known-main : Triple 𝓤 (C main′.name) (Main 𝓤 H A mem run)) where
-    walk : ent 𝓤 (onEntry 𝓤 H A call.signature κs (q₀ & q₁ & q₂ & q₃ & tt) arg at)
-        (WpFn 𝓤 H C Λ code.function (stateVal s ∷ v-ys ∷ bytes ps ∷ bytes qs ∷ vint w32 node ∷ bytes bs ∷ []) Post)
+    walk : ent 𝓤 (onEntry 𝓤 H A call.signature (κ₀ & κ₁ & κ₂ & κ₃ & tt) (q₀ & q₁ & q₂ & q₃ & tt) arg at)
+        (WpFn 𝓤 H C Λ code.function (stateVal s ∷ sliceOf b o ys ∷ lentVal ps ∷ lentVal qs ∷ vint w32 node ∷ lentVal bs ∷ []) Post)
     walk =
         qed W ((‵ (flft κ₀ q₀) ⊛ Tokens) ∷ ‵ (owns (St.the-row ∷ ShrSlice (named 0) κ₀ T.the-row ∷ ShrSlice (named 1) κ₁ u8
         ∷ ShrSlice (named 2) κ₂ u8 ∷ u32 ∷ MutSlice (named 3) κ₃ u8 ∷ []) arg at) ∷ []) ∵
-        enter ! C Λ code.function (stateVal s ∷ v-ys ∷ bytes ps ∷ bytes qs ∷ vint w32 node ∷ bytes bs ∷ []) _ $
-        allocs-all ! (λ ls. params1 ! $
-        pass1 ! (init ! 18 refl (state-typed W s g-s)) $ pass1 ! (init ! 16 refl (tt, (tt, (record { fits = g-ys .0 }, tt)))) $ pass1 !
-        (init ! 14 refl (tt, (tt, (record { fits = g-ps .0 }, tt)))) $ pass1 ! (init ! 12 refl (tt, (tt, (record { fits = g-qs .0 }, tt))))
-        $ pass1 ! (init ! 10 refl (tt, record { fits = g-node })) $ pass1 ! (init ! 8 refl (tt, (tt, (record { fits = g-bs .0 }, tt)))) $
-        pass0 ! $ move ! (23 ∷ []) $ fsplit ! $ drop ! $ fsplit ! $ move ! (1 ∷ []) $ fsplit ! $ move ! (1 ∷ []) $ fsplit ! $ move ! (1 ∷
-        []) $ fsplit ! $ drop ! $ fsplit ! $ move ! (1 ∷ []) $ drop ! $ move ! (26 ∷ []) $ split ! $ move ! (5 ∷ 0 ∷ []) $
+        enter ! C Λ code.function _ _ $ allocs-all ! (λ ls. params1 ! $
+        pass1 ! (init ! 18 refl (state-typed W s g-s)) $ pass1 ! (init ! 16 refl (tt, (tt, (record { fits = g-ys .0 }, tt)))) $
+        pass1 ! (init ! 14 refl (tt, (tt, (record { fits = g-ps .0 }, tt)))) $
+        pass1 ! (init ! 12 refl (tt, (tt, (record { fits = g-qs .0 }, tt)))) $ pass1 ! (init ! 10 refl (tt, record { fits = g-node })) $
+        pass1 ! (init ! 8 refl (tt, (tt, (record { fits = g-bs .0 }, tt)))) $ pass0 ! $
+        move ! (23 ∷ []) $ fsplit ! $ drop ! $ fsplit ! $ move ! (1 ∷ []) $ fsplit ! $ move ! (1 ∷ []) $ fsplit ! $ move ! (1 ∷ []) $
+        fsplit ! $ drop ! $ fsplit ! $ move ! (1 ∷ []) $ drop ! $ move ! (26 ∷ []) $ split ! $ move ! (5 ∷ 0 ∷ []) $
         -- [the slots; their token; the other tokens; the buffer; the queues; the payload; the locals]
-        looks-freely ys ! fm St.the-row (state-makes 𝓤 H A) s (stateVal s) g-s u64 (λ (k : ℕ). length ys ≡ 32 → k ≡ scanned s ys) key.ended
-        (κ₀, tt) (x-ys, (s, tt)) (known-key (((κ₀, tt), (q₀, tt), tt, (x-ys, (s, tt)), (v-ys ∷ [], (stateVal s ∷ [], tt))), tt))
+        looks-freely ys ! fm St.the-row (state-makes 𝓤 H A) s (stateVal s) g-s u64 (λ (k : ℕ). length ys ≡ 32 → k ≡ scanned s ys)
+        key.ended (κ₀, tt) (lentAt b o γ ys, (s, tt))
+        (known-key (((κ₀, tt), (q₀, tt), tt, (lentAt b o γ ys, (s, tt)), (sliceOf b o ys ∷ [], (stateVal s ∷ [], tt))), tt))
         (and-then ! (here ! 21 refl) (and-then ! (here ! 23 refl) (no-more !))) (λ v₁ k e₁ is₁.
         land ! (from ! (stop !)) (init ! 11 refl (word-typed W k v₁ is₁)) $
-        assigns ! (of-opd ! (load ! (from ! (fld ! refl (stop !))) (look-in ! 21 (sub ! 1 refl (whole !))))) (from ! (stop !)) (init ! 9
-        refl (tt, record { fits = g-ys .0 })) $ assigns ! (addr ! (from ! (fld ! refl (hop ! (look-in ! 13 (sub ! 0 refl (whole !))) (stop
-        !))))) (from ! (stop !)) (init ! 7 refl (tt, tt)) $ assigns ! (agg ! (and-then ! (here ! 7 refl) (and-then ! (load ! (from ! (fld !
-        refl (stop !))) (look-in ! 13 (sub ! 1 refl (whole !)))) (no-more !)))) (from ! (stop !)) (init ! 5 refl (
-          tt,
-          (
-            tt,
-            (
-              record {
-                fits =
-                    g-bs .0;
-              },
-              tt,
-            ),
-          ),
-        )) $
+        assigns ! (of-opd ! (load ! (from ! (fld ! refl (stop !))) (look-in ! 21 (sub ! 1 refl (whole !)))))
+        (from ! (stop !)) (init ! 9 refl (tt, record { fits = g-ys .0 })) $
+        assigns ! (addr ! (from ! (fld ! refl (hop ! (look-in ! 13 (sub ! 0 refl (whole !))) (stop !)))))
+        (from ! (stop !)) (init ! 7 refl (tt, tt)) $
+        assigns ! (agg ! (and-then ! (here ! 7 refl)
+        (and-then ! (load ! (from ! (fld ! refl (stop !))) (look-in ! 13 (sub ! 1 refl (whole !)))) (no-more !))))
+        (from ! (stop !)) (init ! 5 refl (tt, (tt, (record { fits = g-bs .0 }, tt)))) $
         let h : Counted s (length ys) k ys = record { count = refl; key-is = λ n. sym (e₁ n) } in
-        move ! (4 ∷ 3 ∷ []) $ join ! $ move ! (2 ∷ 0 ∷ 3 ∷ []) $ use3 W (raw (Main 𝓤 H A mem run .pre (to-main k v₁))) (goes-main k v₁ is₁
-        h) $ calls-at ! fm (Main 𝓤 H A mem run) known-main (to-main k v₁) (and-then ! (here ! 20 refl) (and-then ! (here ! 6 refl) (and-then
-        ! (here ! 8 refl) (and-then ! (here ! 16 refl) (and-then ! (here ! 14 refl) (and-then ! (here ! 12 refl) (and-then ! (here ! 2 refl)
-        (no-more !)))))))) (λ v₂.
-        hears-both ! tt An.the-row Tokens main.ended κs′ (main-args k) (λ r zs. (a : List Slot) → Counted s (length ys) k a → Leaves a r)
-        (λ r zs. (a : List Slot) → Counted s (length ys) k a → Writes a (zs .1 .1 .1 .1 .1 .1 .0)) (λ r. id⊢ 𝓤 _) v₂ (λ r zs e₂ f₂ is₂.
-        fsplit ! $ drop ! $ fsplit ! $ drop ! $ fsplit ! $ drop ! $ fsplit ! $ drop ! $ fsplit ! $ drop ! $ fsplit ! $ drop ! $ fsplit ! $
-        fsplit ! $ move ! (1 ∷ []) $ feqL ! (λ len. move ! (1 ∷ []) $ drop ! $ land ! (from ! (stop !)) (init ! 23 refl (answer-typed W r v₂
-        is₂)) $ returns ! (look ! 23 refl) $ behind ! 3 $
+        move ! (4 ∷ 3 ∷ []) $ join ! $ move ! (2 ∷ 0 ∷ 3 ∷ []) $ use3 W (raw (Main 𝓤 H A mem run .pre (to-main k v₁)))
+        (goes k v₁ is₁ h) $ calls-at ! fm (Main 𝓤 H A mem run) known-main (to-main k v₁) (and-then ! (here ! 20 refl)
+        (and-then ! (here ! 6 refl) (and-then ! (here ! 8 refl) (and-then ! (here ! 16 refl) (and-then ! (here ! 14 refl)
+        (and-then ! (here ! 12 refl) (and-then ! (here ! 2 refl) (no-more !)))))))) (λ v₂.
+        hears-both ! tt An.the-row Tokens main.ended (κ₁ & κ₂ & κ₃ & tt) (main-args k) _ _ (λ r. id⊢ 𝓤 _) v₂ (λ r zs e₂ f₂ is₂.
+        fsplit ! $ drop ! $ fsplit ! $ drop ! $ fsplit ! $ drop ! $ fsplit ! $ drop ! $ fsplit ! $ drop ! $ fsplit ! $ drop ! $
+        fsplit ! $ fsplit ! $ move ! (1 ∷ []) $ feqL ! (λ len. move ! (1 ∷ []) $ drop ! $
+        land ! (from ! (stop !)) (init ! 23 refl (answer-typed W r v₂ is₂)) $ returns ! (look ! 23 refl) $ behind ! 3 $
         frees-all ! (full _ ∷ full _ ∷ full _ ∷ full _ ∷ full _ ∷ full _ ∷ full _ ∷ full _ ∷ full _ ∷ full _ ∷ full _ ∷ []) $
         move ! (2 ∷ 1 ∷ []) $ join ! $ by ! (exits r v₂ is₂ (zs .1 .1 .1 .1 .1 .1 .0) (e₂ ys h) (f₂ ys h) len))))))
 
@@ -206,12 +174,13 @@ module _ {M : Type 1} (𝓤 : URA M) (H : Heap 𝓤) (A : Atoms 𝓤) (W : Given
   walks : Walks 𝓤 H A call.ended stayed (WpFn 𝓤 H (𝓣 .C) (𝓣 .Λ) code.function) (call.clauses 𝓤 H A mem run)
   walks = walked 𝓤 H A call.ended stayed (call.clauses 𝓤 H A mem run) (WpFn 𝓤 H (𝓣 .C) (𝓣 .Λ) code.function)
       (λ κs. stateVals & slice-vals & slice-vals & slice-vals & uint-vals w32 & slice-vals & tt)
-      (λ κs. state-tells & shr-slice-tells (named 0) (κs .0) T.the-row & shr-slice-tells (named 1) (κs .1 .0) u8 & shr-slice-tells (named 2)
-      (κs .1 .1 .0) u8 & uint-tells w32 & mut-slice-tells (named 3) (κs .1 .1 .1 .0) u8 & tt) (λ κs qs bounds a g are. via 𝓤 _ (fst∗ 𝓤 _
-      (emp 𝓤)) (walk 𝓤 H A W mem run (κs .0) (κs .1 .0) (κs .1 .1 .0) (κs .1 .1 .1 .0) (qs .0) (qs .1 .0) (qs .1 .1 .0) (qs .1 .1 .1 .0) (a
-      .1 .0 .ptr .0) (a .1 .0 .ptr .1) (a .1 .0 .name) (a .0) (a .1 .0 .now) (a .1 .1 .0) (a .1 .1 .1 .0) (a .1 .1 .1 .1 .0) (a .1 .1 .1 .1
-      .1 .0) (are .0) (are .1 .0 .0 .1) (are .1 .1 .0 .0 .1) (are .1 .1 .1 .0 .0 .1) (are .1 .1 .1 .1 .0 .1) (are .1 .1 .1 .1 .1 .0 .0 .1)
-      (𝓣 .C) (𝓣 .Λ) (fmOf 𝓤 H (W .laws) 𝓣) known-key known-main))
+      (λ κs. state-tells & shr-slice-tells (named 0) (κs .0) T.the-row & shr-slice-tells (named 1) (κs .1 .0) u8
+      & shr-slice-tells (named 2) (κs .1 .1 .0) u8 & uint-tells w32 & mut-slice-tells (named 3) (κs .1 .1 .1 .0) u8 & tt)
+      (λ κs qs bounds a g are. via 𝓤 _ (fst∗ 𝓤 _ (emp 𝓤)) (walk 𝓤 H A W mem run (κs .0) (κs .1 .0) (κs .1 .1 .0) (κs .1 .1 .1 .0)
+      (qs .0) (qs .1 .0) (qs .1 .1 .0) (qs .1 .1 .1 .0) (a .1 .0 .ptr .0) (a .1 .0 .ptr .1) (a .1 .0 .name) (a .0) (a .1 .0 .now)
+      (a .1 .1 .0) (a .1 .1 .1 .0) (a .1 .1 .1 .1 .0) (a .1 .1 .1 .1 .1 .0) (are .0) (are .1 .0 .0 .1) (are .1 .1 .0 .0 .1)
+      (are .1 .1 .1 .0 .0 .1) (are .1 .1 .1 .1 .0 .1) (are .1 .1 .1 .1 .1 .0 .0 .1) (𝓣 .C) (𝓣 .Λ)
+      (fmOf 𝓤 H (W .laws) 𝓣) known-key known-main))
 
   meets : Meets 𝓤 H A call.signature (WpFn 𝓤 H (𝓣 .C) (𝓣 .Λ) code.function) (call.spec 𝓤 H A mem run)
   meets = walk-meets 𝓤 H A call.ended stayed W (goes-dropped 𝓤 H A W 4 (plain (λ _. St.the-row)) yes (λ κs x f. refl)

@@ -65,7 +65,6 @@ use Rattle.outcome.proofs.Answer as An
 use Rattle.plain_bus.specs.Round.{injectionFrom}
 use Rattle.bus.specs.Left.{left, leaves}
 use Rattle.bus.specs.Given.{Taken}
-use Rattle.outcome.specs.declared.Change.{Change}
 use Rattle.outcome.proofs.Change as Ch
 use Rattle.lent_scan.proofs.scan as scan
 use Rattle.lent_scan.proofs.scan.Symbol as scan-def
@@ -164,16 +163,7 @@ module _ {M : Type 1} (𝓤 : URA M) (H : Heap 𝓤) (A : Atoms 𝓤) (W : Given
       v-ys ∷ [],
       (
         v-ps ∷ [],
-        (
-          v-qs ∷ [],
-          (
-            vint w32 injected ∷ [],
-            (
-              vint w32 error ∷ [],
-              (vint w32 detector ∷ [], tt),
-            ),
-          ),
-        ),
+        (v-qs ∷ [], (vint w32 injected ∷ [], (vint w32 error ∷ [], (vint w32 detector ∷ [], tt)))),
       ),
     ),
   )
@@ -189,11 +179,8 @@ module _ {M : Type 1} (𝓤 : URA M) (H : Heap 𝓤) (A : Atoms 𝓤) (W : Given
   exits a v is ys′ ps′ qs′ e len-ys len-ps len-qs =
       qed W ((‵ (flft κ₀ q₀) ⊛ ‵ (flft κ₁ q₁) ⊛ ‵ (flft κ₂ q₂) ⊛ ‵ ftrue) ∷ ‵ (finally T.the-row γ₀ ys′) ∷ ‵ (finally u8 γ₁ ps′) ∷ ‵
       (finally u8 γ₂ qs′) ∷ []) ∵
-      suffices ! _ (ends-at 𝓤 H A call.ended stayed (call.clauses 𝓤 H A mem run) W ((κs, (q₀, (q₁, (q₂, tt))), tt, arg, at), tt) v a (
-        tt,
-        (ys′, (ps′, (qs′, (tt, (tt, (tt, tt)))))),
-      )
-      (tt, (len-ys, (len-ps, (len-qs, (tt, (tt, (tt, tt)))))))) $ says ! e $
+      suffices ! _ (ends-at 𝓤 H A call.ended stayed (call.clauses 𝓤 H A mem run) W ((κs, (q₀, (q₁, (q₂, tt))), tt, arg, at), tt) v a
+      (tt & ys′ & ps′ & qs′ & tt & tt & tt & tt) (tt, (len-ys, (len-ps, (len-qs, (tt, (tt, (tt, tt)))))))) $ says ! e $
       frame ! $ nothing ! $ nothing ! $ fjoin ! $ nothing ! $ fjoin ! $ nothing ! $ fjoin ! $ move ! (3 ∷ 0 ∷ []) $ fjoin ! $
       move ! (2 ∷ 0 ∷ []) $ fjoin ! $ move ! (1 ∷ 0 ∷ []) $
       fjoin ! $ nothing ! $ fjoin ! $ frame ! $ owned ! An.the-row (Is An.the-row) (answer-makes 𝓤 H A) a _ is $ done !
@@ -202,11 +189,6 @@ module _ {M : Type 1} (𝓤 : URA M) (H : Heap 𝓤) (A : Atoms 𝓤) (W : Given
       (injectionFrom injected error detector))
   refused-as a h e = ap (λ (z : Answer). left z ys ps qs) e ∙ sym (ap leaves (wrong-round (held s ys ps qs) h
       (injectionFrom injected error detector)))
-
-  -- what the call by value ensures, of all slots that it may be made on
-  abbrev Ended : ℕ → List Slot → List ℕ → Change → List ℕ → List ℕ → Type 0
-  Ended key four ids c ps′ qs′ = (a : List Slot) → Taken s key four ids a → endedBy c a ps′ qs′ ≡ ended (roundIn (held s a ps qs)
-      (injectionFrom injected error detector))
 
   -- what the call by value binds outside its triple, and that the caller has what it asks
   abbrev κs′ : Lfts 2
@@ -218,29 +200,12 @@ module _ {M : Type 1} (𝓤 : URA M) (H : Heap 𝓤) (A : Atoms 𝓤) (W : Given
   abbrev main-args : ℕ → List Slot → List ℕ → MainArg
   main-args key four ids = (s, (key, (four, (ids, (x-ps, (x-qs, (injected, (error, (detector, tt)))))))))
 
+  abbrev main-at : Val → Val → Val → Vals main.signature κs′
+  main-at vk vf vi = (stateVal s ∷ []) & (vk ∷ []) & (vf ∷ []) & (vi ∷ []) & (v-ps ∷ []) & (v-qs ∷ []) & (vint w32 injected ∷ [])
+      & (vint w32 error ∷ []) & (vint w32 detector ∷ []) & tt
+
   abbrev to-main : ℕ → Val → List Slot → Val → List ℕ → Val → Main 𝓤 H A mem run .Ghost
-  to-main key vk four vf ids vi = (
-    (
-      κs′,
-      (q₁, (q₂, tt)),
-      tt,
-      main-args key four ids,
-      (
-        stateVal s ∷ [],
-        (
-          vk ∷ [],
-          (
-            vf ∷ [],
-            (
-              vi ∷ [],
-              (v-ps ∷ [], (v-qs ∷ [], (vint w32 injected ∷ [], (vint w32 error ∷ [], (vint w32 detector ∷ [], tt))))),
-            ),
-          ),
-        ),
-      ),
-    ),
-    tt,
-  )
+  to-main key vk four vf ids vi = ((κs′, q₁ & q₂ & tt, tt, main-args key four ids, main-at vk vf vi), tt)
 
   goes-main : (key : ℕ) (vk : Val) → Is u64 key (vk ∷ []) → (four : List Slot) (vf : Val) → Is Block four (vf ∷ []) → (ids : List ℕ)
       (vi : Val) → Is Ids ids (vi ∷ []) → ((a : List Slot) × Taken s key four ids a)
@@ -315,16 +280,9 @@ module _ {M : Type 1} (𝓤 : URA M) (H : Heap 𝓤) (A : Atoms 𝓤) (W : Given
         (whole !)))) (no-more !)))) (from ! (stop !)) (init ! 21 refl (tt, (tt, (record { fits = g-ys .0 }, tt)))) $
         move ! (0 ∷ 1 ∷ []) $ lends-mut ys ! tt (λ ν δ.
         looks-one ys ! fm (length ys ≡ 32) n32 St.the-row (state-makes 𝓤 H A) s (stateVal s) g-s u64 (λ
-        (k : ℕ). k ≡ scanned s ys) scan.ended (ν ∷ [], tt) (lentAt b₀ o₀ δ ys, (s, tt)) (known-scan (
-          (
-            (ν ∷ [], tt),
-            (fullShare, tt),
-            tt,
-            (lentAt b₀ o₀ δ ys, (s, tt)),
-            (v-ys ∷ [], (stateVal s ∷ [], tt)),
-          ),
-          tt,
-        )) (and-then ! (here ! 21 refl) (and-then ! (here ! 55 refl)
+        (k : ℕ). k ≡ scanned s ys) scan.ended (ν ∷ [], tt) (lentAt b₀ o₀ δ ys, (s, tt)) (known-scan
+        (((ν ∷ [], tt), (fullShare, tt), tt, (lentAt b₀ o₀ δ ys, (s, tt)), (v-ys ∷ [], (stateVal s ∷ [], tt))), tt)) (and-then !
+        (here ! 21 refl) (and-then ! (here ! 55 refl)
         (no-more !))) (λ v₁ key e₁ is₁. mut-back ys ! tt g-ys $
         land ! (from ! (stop !)) (init ! 39 refl (word-typed W key v₁ is₁)) $
         calls-one ! fm u64 (uint-makes 𝓤 H A W w64) key v₁ is₁ usize (λ (i : ℕ). (i ≡ winnerBlock key) × (i + 4 ≤ 32)) place.ended tt
@@ -336,16 +294,9 @@ module _ {M : Type 1} (𝓤 : URA M) (H : Heap 𝓤) (A : Atoms 𝓤) (W : Given
         (whole !)))) (no-more !)))) (from ! (stop !)) (init ! 17 refl (tt, (tt, (record { fits = g-ys .0 }, tt)))) $
         let within : at₂ + 4 ≤ length ys = omega (arith, e₂ .1, n32) in move ! (0 ∷ 1 ∷ []) $ lends-mut ys ! tt (λ ν δ.
         looks-one ys ! fm (at₂ + 4 ≤ length ys) within usize (uint-makes 𝓤 H A W w64) at₂ v₂ is₂ Block (λ
-        (l : List Slot). l ≡ blockAt ys at₂) four.ended (ν ∷ [], tt) (lentAt b₀ o₀ δ ys, (at₂, tt)) (known-four (
-          (
-            (ν ∷ [], tt),
-            (fullShare, tt),
-            tt,
-            (lentAt b₀ o₀ δ ys, (at₂, tt)),
-            (v-ys ∷ [], (v₂ ∷ [], tt)),
-          ),
-          tt,
-        )) (and-then ! (here ! 17 refl) (and-then !
+        (l : List Slot). l ≡ blockAt ys at₂) four.ended (ν ∷ [], tt) (lentAt b₀ o₀ δ ys, (at₂, tt)) (known-four
+        (((ν ∷ [], tt), (fullShare, tt), tt, (lentAt b₀ o₀ δ ys, (at₂, tt)), (v-ys ∷ [], (v₂ ∷ [], tt))), tt)) (and-then ! (here ! 17 refl)
+        (and-then !
         (here ! 37 refl) (no-more !))) (λ v₃ b₃′ e₃ is₃. mut-back ys ! tt g-ys $
         land ! (from ! (stop !)) (init ! 35 refl (typed-block W b₃′ v₃ is₃)) $
         let h : Taken s key b₃′ n₄ ys = record {
@@ -367,8 +318,8 @@ module _ {M : Type 1} (𝓤 : URA M) (H : Heap 𝓤) (A : Atoms 𝓤) (W : Given
         calls-at ! fm (Main 𝓤 H A mem run) known-main (to-main key v₁ b₃′ v₃ n₄ v₄) (and-then ! (here ! 53 refl) (and-then !
         (here ! 37 refl) (and-then ! (here ! 33 refl) (and-then ! (here ! 39 refl) (and-then ! (here ! 11 refl) (and-then !
         (here ! 7 refl) (and-then ! (here ! 45 refl) (and-then ! (here ! 43 refl) (and-then ! (here ! 41 refl) (no-more !)))))))))) (λ v₅.
-        hears-both ! tt Ch.the-row (‵ (flft κ₁ q₁) ⊛ ‵ (flft κ₂ q₂) ⊛ ‵ ftrue) main.ended κs′ (main-args key b₃′ n₄)
-        (λ c zs. Ended key b₃′ n₄ c (zs .1 .1 .1 .1 .0) (zs .1 .1 .1 .1 .1 .0)) (λ c zs. c .at + 4 ≤ 32) (λ c. id⊢ 𝓤 _) v₅
+        hears-both ! tt Ch.the-row (‵ (flft κ₁ q₁) ⊛ ‵ (flft κ₂ q₂) ⊛ ‵ ftrue) main.ended κs′ (main-args key b₃′ n₄) _ _
+        (λ c. id⊢ 𝓤 _) v₅
         (λ c zs e₅ f₅ is₅.
         fsplit ! $ drop ! $ fsplit ! $ drop ! $ fsplit ! $ drop ! $ fsplit ! $ drop ! $ fsplit ! $ fsplit ! $ move ! (1 ∷ []) $
         feqL ! (λ len-ps. move ! (1 ∷ []) $ fsplit ! $ fsplit ! $ move ! (1 ∷ []) $ feqL ! (λ len-qs. move ! (1 ∷ []) $ drop ! $

@@ -200,13 +200,8 @@ module _ {M : Type 1} (𝓤 : URA M) (H : Heap 𝓤) (A : Atoms 𝓤) (W : Given
         qed W ((‵ (flft κ₀ q₀) ⊛ ‵ (flft κ₁ q₁) ⊛ ‵ (flft κ₂ q₂) ⊛ ‵ ftrue) ∷ ‵ (owns (MutSlice (named 0) κ₀ T.the-row ∷ ShrSlice
         (named 1) κ₁ u8 ∷ ShrSlice (named 2) κ₂ u8 ∷ u32
         ∷ []) arg at) ∷ []) ∵ enter ! C Λ code.function (v-ys ∷ v-ps ∷ v-qs ∷ vint w32 count ∷ []) _ $ allocs-all ! (λ ls. params1 ! $
-        pass1 ! (init ! 26 refl (tt, (tt, (record { fits = g-ys .0 }, tt)))) $ pass1 ! (init ! 24 refl (
-          tt,
-          (
-            tt,
-            (record { fits = g-ps .0 }, tt),
-          ),
-        )) $
+        pass1 ! (init ! 26 refl (tt, (tt, (record { fits = g-ys .0 }, tt)))) $ pass1 ! (init ! 24 refl
+        (tt, (tt, (record { fits = g-ps .0 }, tt)))) $
         pass1 ! (init ! 22 refl (tt, (tt, (record { fits = g-qs .0 }, tt)))) $ pass1 ! (init ! 20 refl (tt, record { fits = g-count })) $
         pass0 ! $
         move ! (31 ∷ []) $ fsplit ! $ move ! (1 ∷ []) $ fsplit ! $ move ! (1 ∷ []) $ fsplit ! $ move ! (1 ∷ []) $ drop ! $
@@ -247,10 +242,8 @@ module _ {M : Type 1} (𝓤 : URA M) (H : Heap 𝓤) (A : Atoms 𝓤) (W : Given
         (whole !))))
         (no-more !)))) (from ! (stop !)) (init ! 5 refl (tt, (tt, (record { fits = g-ys .0 }, tt)))) $
         calls-one ! fm R.the-row (LL.makes R.the-type R′.the-plain 𝓤 H A) c v₂ is₂ Slots (λ
-        (l : List Slot). l ≡ c .slots) slots-of.ended tt (c, tt) (known-slots (
-          (tt, tt, tt, (c, tt), (v₂ ∷ [], tt)),
-          tt,
-        )) (and-then ! (here ! 20 refl) (no-more !)) (λ v₃ l e₃ is₃.
+        (l : List Slot). l ≡ c .slots) slots-of.ended tt (c, tt) (known-slots ((tt, tt, tt, (c, tt), (v₂ ∷ [], tt)), tt)) (and-then !
+        (here ! 20 refl) (no-more !)) (λ v₃ l e₃ is₃.
         land ! (from ! (stop !)) (init ! 3 refl (typed-all W l v₃ is₃)) $ move ! (1 ∷ 2 ∷ []) $
         stores mem run ys ! fm known-store n32 l v₃ is₃ (and-then ! (here ! 4 refl) (and-then ! (here ! 2 refl) (no-more !)))
         (λ u tu len-ys.
@@ -277,14 +270,7 @@ module _ {M : Type 1} (𝓤 : URA M) (H : Heap 𝓤) (A : Atoms 𝓤) (W : Given
   ))
       (λ κs. (
         mut-slice-tells (named 0) (κs .0) T.the-row,
-        (
-          shr-slice-tells (named 1) (κs .1 .0) u8,
-          (
-            shr-slice-tells (named 2)
-                (κs .1 .1 .0) u8,
-            (uint-tells w32, tt),
-          ),
-        ),
+        (shr-slice-tells (named 1) (κs .1 .0) u8, (shr-slice-tells (named 2) (κs .1 .1 .0) u8, (uint-tells w32, tt))),
       ))
       (λ κs qs bounds a g are. via 𝓤 _ (fst∗ 𝓤 _ (emp 𝓤)) (walk 𝓤 H A W mem run (κs .0) (κs .1 .0) (κs .1 .1 .0) (qs .0) (qs .1 .0)
       (qs .1 .1 .0)

@@ -65,7 +65,6 @@ use Rattle.outcome.specs.Ended.{ended, endedBy}
 use Rattle.outcome.proofs.Answer as An
 use Rattle.bus.specs.Left.{left, leaves}
 use Rattle.bus.specs.Given.{Scanned}
-use Rattle.outcome.specs.declared.Change.{Change}
 use Rattle.outcome.proofs.Change as Ch
 use Rattle.lent_scan.proofs.scan as scan
 use Rattle.lent_scan.proofs.scan.Symbol as scan-def
@@ -181,11 +180,6 @@ module _ {M : Type 1} (𝓤 : URA M) (H : Heap 𝓤) (A : Atoms 𝓤) (W : Given
       (held s ys ps qs) node bs)
   refused-as a h e = ap (λ (z : Answer). left z ys ps qs) e ∙ sym (ap leaves (wrong-submit (held s ys ps qs) h node bs))
 
-  -- what the call by value ensures, of all slots that it may be made on
-  abbrev Ended : ℕ → List Slot → Change → List ℕ → List ℕ → Type 0
-  Ended key four c ps′ qs′ = (a : List Slot) → Scanned s key a → blockAt a (firstSlot node) ≡ four → endedBy c a ps′ qs′ ≡ ended (submitIn
-      (held s a ps qs) node bs)
-
   -- what the call by value binds outside its triple, and that the caller has what it asks
   abbrev κs′ : Lfts 3
   κs′ = (κ₁, (κ₂, (κ₃, tt)))
@@ -196,29 +190,11 @@ module _ {M : Type 1} (𝓤 : URA M) (H : Heap 𝓤) (A : Atoms 𝓤) (W : Given
   abbrev main-args : ℕ → List Slot → MainArg
   main-args key four = (s, (key, (four, (x-ps, (x-qs, (node, (x-bs, tt)))))))
 
+  abbrev main-at : Val → Val → Vals main.signature κs′
+  main-at vk vf = (stateVal s ∷ []) & (vk ∷ []) & (vf ∷ []) & (v-ps ∷ []) & (v-qs ∷ []) & (vint w32 node ∷ []) & (v-bs ∷ []) & tt
+
   abbrev to-main : ℕ → Val → List Slot → Val → Main 𝓤 H A mem run .Ghost
-  to-main key vk four vf = (
-    (
-      κs′,
-      (q₁, (q₂, (q₃, tt))),
-      tt,
-      main-args key four,
-      (
-        stateVal s ∷ [],
-        (
-          vk ∷ [],
-          (
-            vf ∷ [],
-            (
-              v-ps ∷ [],
-              (v-qs ∷ [], (vint w32 node ∷ [], (v-bs ∷ [], tt))),
-            ),
-          ),
-        ),
-      ),
-    ),
-    tt,
-  )
+  to-main key vk four vf = ((κs′, q₁ & q₂ & q₃ & tt, tt, main-args key four, main-at vk vf), tt)
 
   goes-main : (key : ℕ) (vk : Val) → Is u64 key (vk ∷ []) → (four : List Slot) (vf : Val) → Is Block four (vf ∷ []) →
       ((a : List Slot) × Scanned s key a)
@@ -287,16 +263,9 @@ module _ {M : Type 1} (𝓤 : URA M) (H : Heap 𝓤) (A : Atoms 𝓤) (W : Given
         let within : at₂ + 4 ≤ length ys = omega (arith, e₂ .1, n32) in move ! (0 ∷ []) $ split ! $ move ! (5 ∷ 0 ∷ []) $
         lends-mut ys ! tt (λ ν δ.
         looks-one ys ! fm (at₂ + 4 ≤ length ys) within usize (uint-makes 𝓤 H A W w64) at₂ v₂ is₂ Block (λ
-        (l : List Slot). l ≡ blockAt ys at₂) four.ended (ν ∷ [], tt) (lentAt b₀ o₀ δ ys, (at₂, tt)) (known-four (
-          (
-            (ν ∷ [], tt),
-            (fullShare, tt),
-            tt,
-            (lentAt b₀ o₀ δ ys, (at₂, tt)),
-            (v-ys ∷ [], (v₂ ∷ [], tt)),
-          ),
-          tt,
-        )) (and-then ! (here ! 22 refl) (and-then !
+        (l : List Slot). l ≡ blockAt ys at₂) four.ended (ν ∷ [], tt) (lentAt b₀ o₀ δ ys, (at₂, tt)) (known-four
+        (((ν ∷ [], tt), (fullShare, tt), tt, (lentAt b₀ o₀ δ ys, (at₂, tt)), (v-ys ∷ [], (v₂ ∷ [], tt))), tt)) (and-then ! (here ! 22 refl)
+        (and-then !
         (here ! 36 refl) (no-more !))) (λ v₃ b₃′ e₃ is₃. mut-back ys ! tt g-ys $
         land ! (from ! (stop !)) (init ! 34 refl (typed-block W b₃′ v₃ is₃)) $
         assigns ! (addr ! (from ! (fld ! refl (hop ! (look-in ! 46 (sub ! 0 refl (whole !))) (stop !))))) (from ! (stop !))
@@ -305,16 +274,9 @@ module _ {M : Type 1} (𝓤 : URA M) (H : Heap 𝓤) (A : Atoms 𝓤) (W : Given
         (whole !)))) (no-more !)))) (from ! (stop !)) (init ! 18 refl (tt, (tt, (record { fits = g-ys .0 }, tt)))) $
         move ! (0 ∷ 1 ∷ []) $ lends-mut ys ! tt (λ ν δ.
         looks-one ys ! fm (length ys ≡ 32) n32 St.the-row (state-makes 𝓤 H A) s (stateVal s) g-s u64 (λ
-        (k : ℕ). k ≡ scanned s ys) scan.ended (ν ∷ [], tt) (lentAt b₀ o₀ δ ys, (s, tt)) (known-scan (
-          (
-            (ν ∷ [], tt),
-            (fullShare, tt),
-            tt,
-            (lentAt b₀ o₀ δ ys, (s, tt)),
-            (v-ys ∷ [], (stateVal s ∷ [], tt)),
-          ),
-          tt,
-        )) (and-then ! (here ! 18 refl) (and-then ! (here ! 48 refl)
+        (k : ℕ). k ≡ scanned s ys) scan.ended (ν ∷ [], tt) (lentAt b₀ o₀ δ ys, (s, tt)) (known-scan
+        (((ν ∷ [], tt), (fullShare, tt), tt, (lentAt b₀ o₀ δ ys, (s, tt)), (v-ys ∷ [], (stateVal s ∷ [], tt))), tt)) (and-then !
+        (here ! 18 refl) (and-then ! (here ! 48 refl)
         (no-more !))) (λ v₁ key e₁ is₁. mut-back ys ! tt g-ys $
         land ! (from ! (stop !)) (init ! 32 refl (word-typed W key v₁ is₁)) $
         let h : Scanned s key ys = record { slots = n32; key-is = sym e₁ } in
@@ -332,8 +294,8 @@ module _ {M : Type 1} (𝓤 : URA M) (H : Heap 𝓤) (A : Atoms 𝓤) (W : Given
         calls-at ! fm (Main 𝓤 H A mem run) known-main (to-main key v₁ b₃′ v₃) (and-then ! (here ! 45 refl) (and-then ! (here ! 29 refl)
         (and-then ! (here ! 31 refl) (and-then ! (here ! 11 refl) (and-then ! (here ! 7 refl) (and-then ! (here ! 37 refl) (and-then !
         (here ! 35 refl) (no-more !)))))))) (λ v₅.
-        hears-both ! tt Ch.the-row (‵ (flft κ₁ q₁) ⊛ ‵ (flft κ₂ q₂) ⊛ ‵ (flft κ₃ q₃) ⊛ ‵ ftrue) main.ended κs′ (main-args key b₃′)
-        (λ c zs. Ended key b₃′ c (zs .1 .1 .1 .0) (zs .1 .1 .1 .1 .0)) (λ c zs. c .at + 4 ≤ 32) (λ c. id⊢ 𝓤 _) v₅ (λ c zs e₅ f₅ is₅.
+        hears-both ! tt Ch.the-row (‵ (flft κ₁ q₁) ⊛ ‵ (flft κ₂ q₂) ⊛ ‵ (flft κ₃ q₃) ⊛ ‵ ftrue) main.ended κs′ (main-args key b₃′) _ _
+        (λ c. id⊢ 𝓤 _) v₅ (λ c zs e₅ f₅ is₅.
         fsplit ! $ drop ! $ fsplit ! $ drop ! $ fsplit ! $ drop ! $ fsplit ! $ fsplit ! $ move ! (1 ∷ []) $
         feqL ! (λ len-ps. move ! (1 ∷ []) $ fsplit ! $ fsplit ! $ move ! (1 ∷ []) $ feqL ! (λ len-qs. move ! (1 ∷ []) $ drop ! $
         move ! (2 ∷ []) $
