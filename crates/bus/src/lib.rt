@@ -24,7 +24,7 @@ use outcome::Change;
 use outcome::Outcome;
 use slots::Slot;
 
-const SLOTS: usize = 32;
+const SLOTS: usize = bus_state::SLOT_COUNT;
 
 const PAYLOAD_BYTES: usize = 65536;
 

@@ -29,7 +29,7 @@ use Rattle.bus.specs.Left.{leaves}
 use Rattle.outcome.specs.declared.Answer as code
 use Rattle.plain_bus.specs.Round.{injectionFrom}
 use Rattle.claims.specs.Numbers.{firstRow, startRows}
-use Rattle.claims.specs.Demands.{Call, submits, arbitrates, collects, plainCall, answerFor, Passes, SameAs, Demanded, Started, followUp, World, opening, Follows, Session, Claim, Demand3}
+use Rattle.claims.specs.Demands.{Call, submits, arbitrates, collects, plainCall, AnswersAs, Passes, SameAs, Demanded, Started, followUp, World, opening, Follows, Session, Claim, Demand3}
 use Rattle.claims.proofs.Model.{leftBy, memoryOf, givenBy}
 use Rattle.claims.proofs.Answers.{left-state, answer-number, done-number}
 use Rattle.claims.proofs.Calls.{follows}
@@ -52,7 +52,7 @@ beside-same : {w : World} {p : network.Network} → Beside w p → (c : Call) (a
 beside-same s c a out m d = subst (λ (b : Bus). SameAs (session.call b (plainCall c)) a out m) (s .bus) (d .same (s .passes))
 
 -- number 0 says that the plain bus's call is done
-same-done : (p : Answer) (a : code.Answer) → answerFor p a → eqb (a .number) 0 ≡ isDone p
+same-done : (p : Answer) (a : code.Answer) → AnswersAs p a → eqb (a .number) 0 ≡ isDone p
 same-done p a e =
     ap (λ (x : code.Answer). eqb (x .number) 0) e ∙ ap (λ (n : ℕ). eqb n 0) (answer-number p (a .state)) ∙ done-number p
 

@@ -46,8 +46,8 @@ plainCall (arbitrates present code detector) = session.round (injectionFrom pres
 plainCall (collects node buffer) = session.collection node (length buffer)
 
 -- an answer of the plain bus, with 01's number and values
-abbrev pub answerFor : plain.Answer → Answer → Type 0
-answerFor p a = a ≡ answerOf (outcomeOf p) (a .state)
+abbrev pub AnswersAs : plain.Answer → Answer → Type 0
+AnswersAs p a = a ≡ answerOf (outcomeOf p) (a .state)
 
 -- a memory that refusals 1 and 3 let pass
 pub record Passes (m : Memory) : Type 0 where
@@ -57,7 +57,7 @@ pub record Passes (m : Memory) : Type 0 where
 -- a call of the bus answers and leaves what the plain bus does: p is what the plain bus's call comes to, a the answer, out the bytes that
 -- were given, and m the memory with the state in the answer
 pub record SameAs (p : plain.Outcome) (a : Answer) (out : List ℕ) (m : Memory) : Type 0 where
-  pub answer : answerFor (p .answer) a
+  pub answer : AnswersAs (p .answer) a
   pub bytes : out ≡ plain.bytesGiven (p .answer)
   pub bus : view m ≡ p .bus
   pub passes : Passes m
@@ -87,7 +87,7 @@ pub record Takes (e : Injection) (w : Entry) (a : Answer) (b b′ : Bus) : Type 
 
 -- a round that is not refused: idle, where nothing is pending and nothing changes, or it takes a frame
 pub data Round (e : Injection) (m : Memory) (a : Answer) (m′ : Memory) : Type 0 where
-  idles : ((y : Entry) → Pending (view m) y → ⊥) → answerFor plain.idle a → m′ ≡ m → Round e m a m′
+  idles : ((y : Entry) → Pending (view m) y → ⊥) → AnswersAs plain.idle a → m′ ≡ m → Round e m a m′
   takes : (w : Entry) → Takes e w a (view m) (view m′) → Round e m a m′
 
 -- of the other calls nothing more is said

@@ -323,7 +323,7 @@ pub extern "C" fn kf_write(
     }
 }
 
-const SLOTS: usize = 32;
+const SLOTS: usize = bus_state::SLOT_COUNT;
 
 // The calls of the bus. A start loads the lent slots and stores them. The others go over the pending ones once, in place, call the bus
 // with that pass's key and what they need of the slots, and put back those that changed.

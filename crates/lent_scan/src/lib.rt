@@ -11,7 +11,7 @@ use outcome::Answer;
 use outcome::Change;
 use slots::Slot;
 
-const SLOTS: usize = 32;
+const SLOTS: usize = bus_state::SLOT_COUNT;
 
 // The key with n frames of node j.
 fn frames_key(slots: &[Slot], key: u64, n: usize, j: usize, round: u32) -> u64
