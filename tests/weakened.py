@@ -23,8 +23,8 @@ CLAUSE = re.compile(r"(ensures [^{]*\{ λ \w+\. ⌜ )(.*)( ⌝ \})")
 RETURNS = re.compile(r"^(returns(?:-\d+)? c =)(.*?)(?=\n\n)", re.M | re.S)
 WALKED = {
     (1, 0): ("says ! e $", "says ! (inl e) $"),
-    (2, 0): ("says-both ! (e .0) (e .1) $", "says-both ! (inl (e .0)) (e .1) $"),
-    (2, 1): ("says-both ! (e .0) (e .1) $", "says-both ! (e .0) (inl (e .1)) $"),
+    (2, 0): ("says-both ! e f $", "says-both ! (inl e) f $"),
+    (2, 1): ("says-both ! e f $", "says-both ! e (inl f) $"),
 }
 LEFT = {
     (1, 0): "left : {A : Type 0} → A → A ⊎ Unit {0}\nleft x = inl x",
