@@ -10,7 +10,11 @@ BEGIN {
         " kf_register_answer=open_frames::RegisterAnswer"
     # The public constants of these crates; and others, by their names in the header.
     public = " operation bus_state open_frames "
-    named["kettlefrost::SLOTS"] = "SLOTS"
+    # Public for the crates above alone.
+    inner = " bus_state::BYTES_PER_SLOT operation::CONFIRM_LENGTH operation::ARBITRATION_LOST_LENGTH" \
+        " operation::BUS_ERROR_LENGTH operation::WAKEUP_LENGTH operation::FORMAT_ERROR_HEAD "
+    named["bus_state::SLOT_COUNT"] = "SLOTS"
+    named["bus_state::MAX_PENDING"] = "SLOTS_PER_NODE"
     named["bus::PAYLOAD_BYTES"] = "PAYLOAD_BYTES"
     named["bus::QUEUE_BYTES"] = "QUEUE_BYTES"
     named["operation::MAX_EXTENDED_ID"] = "MAX_ID"
@@ -40,7 +44,7 @@ struct != "" && /^    pub / {
     value = $NF
     sub(/;/, "", value)
     full = crate "::" name
-    if (full in named || ($1 == "pub" && index(public, " " crate " "))) {
+    if (full in named || ($1 == "pub" && index(public, " " crate " ") && !index(inner, " " full " "))) {
         found[full in named ? full : crate] = 1
         constants = constants "CONSTANT(KF_" (full in named ? named[full] : name) ", " value "u);\n"
     }
