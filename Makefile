@@ -3,7 +3,8 @@
 # make test       the gate: every proof from nothing, then the tests beside them
 # make examples   plays W6 from each language that has an example, held to examples/w6.txt
 # make install    header, static and shared library and pkg-config file to PREFIX=.. (DESTDIR=.. in front, to stage)
-# make bench      throughput of the proved library against the second program and against C that checks nothing
+# make bench      throughput of the proved library against the second program and against C that checks nothing;
+#                 with BEFORE=.. (another build's shared library) against that build instead
 # make memory     the comparisons with lent memory in guarded blocks, under AddressSanitizer and under valgrind
 # make soak N=..  N calls of the bus in random sessions, compared; SEED=.. for other ones
 .PHONY: run check test examples install bench memory soak clean
@@ -57,9 +58,9 @@ install: $(archive) $(shared)
 	$(call links,$(installed)/lib)
 	sed 's|@PREFIX@|$(PREFIX)|; s|@VERSION@|$(version)|' kettlefrost.pc.in >$(installed)/lib/pkgconfig/kettlefrost.pc
 
-bench: $(archive)
+bench: $(archive) $(shared)
 	cd tests/second && cargo build --release --offline --quiet
-	tests/second/target/release/bench
+	tests/second/target/release/bench $(if $(BEFORE),$(BEFORE) $(shared))
 
 memory: $(archive)
 	tests/memory.sh

@@ -11,7 +11,9 @@ use second::memory;
 use second::memory::{Calls, Memory, Second, Sizes};
 
 use crate::floor;
-use crate::measure::{measure, Pass};
+use crate::loaded::{self, AFTER, BEFORE};
+use crate::measure::{measure, Pass, Row};
+use crate::{BUILDS, WAYS};
 
 /// Rounds in a pass: as many as there are frames.
 const ROUNDS: usize = SLOTS;
@@ -166,19 +168,60 @@ impl Way for Floor {
     }
 }
 
-/// A generic function with each of the ways, in the order that is measured.
-macro_rules! of_each_way {
-    ($($function:ident)::+) => {
-        [
-            $($function)::+::<ByLibrary>,
-            $($function)::+::<ByCall>,
-            $($function)::+::<InPlace>,
-            $($function)::+::<Floor>,
-        ]
+/// One of two builds of the library.
+struct Loaded<const BUILD: usize>;
+
+impl<const BUILD: usize> Way for Loaded<BUILD> {
+    #[inline]
+    fn submit(lent: &mut Lent, node: u32, buffer: &[u8]) -> u8 {
+        let answer = loaded::submit::<BUILD>(lent.state, lent.parts(), node, buffer);
+        lent.state = answer.state;
+        answer.number as u8
+    }
+
+    #[inline]
+    fn round(lent: &mut Lent) -> u8 {
+        let answer = loaded::round::<BUILD>(lent.state, lent.parts());
+        lent.state = answer.state;
+        answer.sender
+    }
+
+    #[inline]
+    fn collect(lent: &mut Lent, node: u32, buffer: &mut [u8]) -> usize {
+        let answer = loaded::collect::<BUILD>(lent.state, lent.parts(), node, buffer);
+        lent.state = answer.state;
+        answer.length.into()
+    }
+}
+
+/// What is measured, a function each way.
+struct Measured<const N: usize> {
+    names: [&'static str; N],
+    rounds: [fn(&mut Rounds) -> u64; N],
+    round: [fn(&mut Lent) -> u64; N],
+    submit: [fn(&mut Lent) -> u64; N],
+    collect: [fn(&mut Lent) -> u64; N],
+}
+
+macro_rules! measured {
+    ($names:expr, $($way:ty),+) => {
+        Measured {
+            names: $names,
+            rounds: [$(rounds_pass::<$way>),+],
+            round: [$(round_call::<$way>),+],
+            submit: [$(submit_call::<$way>),+],
+            collect: [$(collect_call::<$way>),+],
+        }
     };
 }
 
 impl Lent {
+    /// What is lent besides the state.
+    fn parts(&mut self) -> loaded::Lent<'_> {
+        let Lent { slots, payload, queues, .. } = self;
+        loaded::Lent { slots, payload, queues }
+    }
+
     /// Eight nodes, and nothing pending.
     fn new() -> Lent {
         let mut memory = Memory::new();
@@ -269,34 +312,8 @@ impl Rounds<'_> {
     }
 }
 
-fn measure_rounds<'a>(frame: &'a Frame) {
-    let passes: [fn(&mut Rounds<'a>) -> u64; 4] = of_each_way!(Rounds::pass);
-    let mut buses = passes.map(|pass| (pass, Rounds::new(frame)));
-    buses.iter_mut().for_each(|(pass, bus)| _ = pass(bus));
-    let title = format!("full rounds with refill and collect, {}", frame.name);
-    assert!(buses.iter().all(|(_, bus)| bus.has_same(&buses[0].1)), "{title}: the memory differs");
-    let ways = buses.each_mut().map(|(pass, bus)| Box::new(|| pass(bus)) as Pass);
-    measure(&title, "rounds", ROUNDS, ways);
-}
-
-/// Measures one call, again and again from the same state. What it leaves in
-/// memory is the same each time.
-fn measure_call(title: &str, units: &str, lent: &Lent, calls: [fn(&mut Lent) -> u64; 4]) {
-    const CALLS: usize = 64;
-    let state = lent.state;
-    let mut lents = calls.map(|call| (call, lent.clone()));
-    lents.iter_mut().for_each(|(call, lent)| _ = call(lent));
-    assert!(lents.iter().all(|(_, lent)| *lent == lents[0].1), "{title}: the memory differs");
-    let repeated = |(call, lent): &mut (fn(&mut Lent) -> u64, Lent)| {
-        let mut total = 0;
-        for _ in 0..CALLS {
-            lent.state = state;
-            total += call(black_box(lent));
-        }
-        total
-    };
-    let ways = lents.each_mut().map(|way| Box::new(|| repeated(way)) as Pass);
-    measure(title, units, CALLS, ways);
+fn rounds_pass<W: Way>(rounds: &mut Rounds) -> u64 {
+    rounds.pass::<W>()
 }
 
 fn round_call<W: Way>(lent: &mut Lent) -> u64 {
@@ -315,28 +332,67 @@ fn collect_call<W: Way>(lent: &mut Lent) -> u64 {
     length as u64
 }
 
-/// Measures everything.
-pub fn measure_all() {
-    let can = Operation::CanTransmit { id: 0, ide: 1, rtr: 0, length: 8 };
-    let fd = Operation::FdTransmit { id: 0, ide: 1, brs: 1, esi: 0, length: 64 };
-    let (sec, sdt, vcid, af) = (0, 3, 0, 0);
-    let xl = Operation::XlTransmit { id: 0, ide: 1, sec, sdt, vcid, af, length: 2_048 };
-    let can = Frame::new("CAN 8 bytes", can);
-    for frame in [&can, &Frame::new("FD 64 bytes", fd), &Frame::new("XL 2,048 bytes", xl)] {
-        measure_rounds(frame);
+impl<const N: usize> Measured<N> {
+    fn rounds(&self, frame: &Frame) {
+        let mut buses = self.rounds.map(|pass| (pass, Rounds::new(frame)));
+        buses.iter_mut().for_each(|(pass, bus)| _ = pass(bus));
+        let title = &format!("full rounds with refill and collect, {}", frame.name);
+        assert!(buses.iter().all(|(_, bus)| bus.has_same(&buses[0].1)), "{title}: memory differs");
+        let ways = buses.each_mut().map(|(pass, bus)| Box::new(|| pass(bus)) as Pass);
+        measure(&Row { title, units: "rounds", steps: ROUNDS }, &self.names, ways);
     }
 
-    let mut full = Lent::full(&can);
-    let rounds = of_each_way!(round_call);
-    measure_call("one round, 32 frames pending", "rounds", &full, rounds);
+    /// Measures one call, again and again from the same state. What it leaves in
+    /// memory is the same each time.
+    fn call(&self, title: &str, units: &str, lent: &Lent, calls: [fn(&mut Lent) -> u64; N]) {
+        const CALLS: usize = 64;
+        let state = lent.state;
+        let mut lents = calls.map(|call| (call, lent.clone()));
+        lents.iter_mut().for_each(|(call, lent)| _ = call(lent));
+        assert!(lents.iter().all(|(_, lent)| *lent == lents[0].1), "{title}: the memory differs");
+        let repeated = |(call, lent): &mut (fn(&mut Lent) -> u64, Lent)| {
+            let mut total = 0;
+            for _ in 0..CALLS {
+                lent.state = state;
+                total += call(black_box(lent));
+            }
+            total
+        };
+        let ways = lents.each_mut().map(|way| Box::new(|| repeated(way)) as Pass);
+        measure(&Row { title, units, steps: CALLS }, &self.names, ways);
+    }
 
-    let submits: [fn(&mut Lent) -> u64; 4] = of_each_way!(submit_call);
-    measure_call("submit of one CAN Transmit, nothing pending", "submits", &Lent::new(), submits);
-    let mut one_free = full.clone();
-    one_free.state.nodes[7].pending = 3;
-    measure_call("submit of one CAN Transmit, 31 frames pending", "submits", &one_free, submits);
+    fn everything(&self) {
+        let can = Operation::CanTransmit { id: 0, ide: 1, rtr: 0, length: 8 };
+        let fd = Operation::FdTransmit { id: 0, ide: 1, brs: 1, esi: 0, length: 64 };
+        let (sec, sdt, vcid, af) = (0, 3, 0, 0);
+        let xl = Operation::XlTransmit { id: 0, ide: 1, sec, sdt, vcid, af, length: 2_048 };
+        let can = Frame::new("CAN 8 bytes", can);
+        for frame in [&can, &Frame::new("FD 64 bytes", fd), &Frame::new("XL 2,048 bytes", xl)] {
+            self.rounds(frame);
+        }
 
-    full.state.nodes[3].fill = QUEUE_CAPACITY as u16;
-    let collects = of_each_way!(collect_call);
-    measure_call("collect of a full queue, 32 frames pending", "collects", &full, collects);
+        let mut full = Lent::full(&can);
+        self.call("one round, 32 frames pending", "rounds", &full, self.round);
+
+        let submit = "submit of one CAN Transmit";
+        self.call(&format!("{submit}, nothing pending"), "submits", &Lent::new(), self.submit);
+        let mut one_free = full.clone();
+        one_free.state.nodes[7].pending = 3;
+        self.call(&format!("{submit}, 31 frames pending"), "submits", &one_free, self.submit);
+
+        full.state.nodes[3].fill = QUEUE_CAPACITY as u16;
+        let title = "collect of a full queue, 32 frames pending";
+        self.call(title, "collects", &full, self.collect);
+    }
+}
+
+/// Measures everything, the library against the second program and the floor.
+pub fn measure_all() {
+    measured!(WAYS, ByLibrary, ByCall, InPlace, Floor).everything();
+}
+
+/// Measures everything, one build against another.
+pub fn measure_builds() {
+    measured!(BUILDS, Loaded<AFTER>, Loaded<BEFORE>).everything();
 }

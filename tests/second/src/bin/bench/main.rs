@@ -6,21 +6,32 @@
 //! second program is measured twice: behind a call of the same kind, and as it
 //! is best used, inlined into the loop. The floor is called as the library is,
 //! but goes through a whole stream when it decodes.
+//!
+//! With two shared libraries as arguments, one build of the library is measured
+//! against the other instead: first the one before a change, then the one after.
 
 mod bus;
 mod floor;
+mod loaded;
 mod measure;
 
+use std::env;
 use std::hint::black_box;
+use std::process::ExitCode;
 
 use kettlefrost::raw;
 use second::codec::{self, Operation, Reading};
 use second::generate::Generator;
 
-use measure::{measure, Ways, SAMPLES};
+use loaded::{AFTER, BEFORE};
+use measure::{measure, Row, Ways, SAMPLES};
 
 const STREAM_BYTES: usize = 64 * 1024;
 const SEED: u64 = 11_898;
+
+/// What is measured against each other.
+const WAYS: [&str; 4] = ["library", "Rust by call", "Rust inlined", "C, no checks"];
+const BUILDS: [&str; 2] = ["after", "before"];
 
 /// The same operations in both codecs' forms and as bytes.
 struct Stream {
@@ -65,9 +76,21 @@ impl Stream {
         })
     }
 
-    fn measure(&self, what: &str, ways: Ways) {
-        let title = format!("{what}, {}", self.name);
-        measure(&title, "operations", self.operations.len(), ways);
+    /// Room for as many writings of it.
+    fn outputs<const N: usize>(&self) -> [Vec<u8>; N] {
+        let mut outs = [const { Vec::new() }; N];
+        outs.fill(vec![0; self.bytes.len()]);
+        outs
+    }
+
+    /// Each of them wrote its bytes.
+    fn hold(&self, outs: &[Vec<u8>]) {
+        assert!(outs.iter().all(|out| *out == self.bytes), "encode: the bytes differ");
+    }
+
+    fn measure<const N: usize>(&self, what: &str, names: &[&str; N], ways: Ways<N>) {
+        let title = &format!("{what}, {}", self.name);
+        measure(&Row { title, units: "operations", steps: self.operations.len() }, names, ways);
     }
 }
 
@@ -115,10 +138,11 @@ fn sum(op: &Operation) -> u64 {
 
 /// Reads a whole stream with the library. The flat answer is taken apart by its
 /// code, as the other side's is by its case.
-fn decode_library(buf: &[u8]) -> u64 {
+#[inline(always)]
+fn decode_library(buf: &[u8], read: impl Fn(&[u8], usize) -> raw::Reading) -> u64 {
     let (mut at, mut total) = (0, 0);
     loop {
-        let reading = raw::read(buf, at);
+        let reading = read(buf, at);
         match Operation::try_from(&reading.operation) {
             Ok(op) => total += sum(&op),
             Err(_) => return total,
@@ -137,10 +161,15 @@ fn decode_second(buf: &[u8], read: impl Fn(&[u8], usize) -> Reading) -> u64 {
     total
 }
 
-fn encode_library(stream: &Stream, out: &mut [u8]) -> u64 {
+#[inline(always)]
+fn encode_library(
+    stream: &Stream,
+    out: &mut [u8],
+    write: impl Fn(raw::Operation, &[u8], &mut [u8]) -> raw::Written,
+) -> u64 {
     let mut at = 0;
     for (op, data) in &stream.flat {
-        at += raw::write(*op, data, &mut out[at..]).length;
+        at += write(*op, data, &mut out[at..]).length;
     }
     at as u64
 }
@@ -174,37 +203,88 @@ fn encode_floor(stream: &Stream, out: &mut [u8]) -> u64 {
 
 fn measure_decode(stream: &Stream) {
     let bytes = &stream.bytes[..];
-    let ways: Ways = [
-        Box::new(|| decode_library(black_box(bytes))),
+    let ways: Ways<4> = [
+        Box::new(|| decode_library(black_box(bytes), raw::read)),
         Box::new(|| decode_second(black_box(bytes), read_by_call)),
         Box::new(|| decode_second(black_box(bytes), codec::read)),
         Box::new(|| decode_floor(black_box(bytes))),
     ];
-    stream.measure("decode", ways);
+    stream.measure("decode", &WAYS, ways);
 }
 
 fn measure_encode(stream: &Stream) {
-    let mut outs = [const { Vec::new() }; 4];
-    outs.fill(vec![0; stream.bytes.len()]);
+    let mut outs: [Vec<u8>; 4] = stream.outputs();
     let [out_1, out_2, out_3, out_4] = &mut outs;
-    let ways: Ways = [
-        Box::new(|| encode_library(black_box(stream), black_box(out_1))),
+    let ways: Ways<4> = [
+        Box::new(|| encode_library(black_box(stream), black_box(out_1), raw::write)),
         Box::new(|| encode_second(black_box(stream), black_box(out_2), write_by_call)),
         Box::new(|| encode_second(black_box(stream), black_box(out_3), codec::write)),
         Box::new(|| encode_floor(black_box(stream), black_box(out_4))),
     ];
-    stream.measure("encode", ways);
-    assert!(outs.iter().all(|out| *out == stream.bytes), "encode: the bytes differ");
+    stream.measure("encode", &WAYS, ways);
+    stream.hold(&outs);
 }
 
-fn main() {
+fn measure_decode_builds(stream: &Stream) {
+    let bytes = &stream.bytes[..];
+    let ways: Ways<2> = [
+        Box::new(|| decode_library(black_box(bytes), loaded::read::<AFTER>)),
+        Box::new(|| decode_library(black_box(bytes), loaded::read::<BEFORE>)),
+    ];
+    stream.measure("decode", &BUILDS, ways);
+}
+
+fn measure_encode_builds(stream: &Stream) {
+    let mut outs: [Vec<u8>; 2] = stream.outputs();
+    let [after, before] = &mut outs;
+    let ways: Ways<2> = [
+        Box::new(|| encode_library(black_box(stream), black_box(after), loaded::write::<AFTER>)),
+        Box::new(|| encode_library(black_box(stream), black_box(before), loaded::write::<BEFORE>)),
+    ];
+    stream.measure("encode", &BUILDS, ways);
+    stream.hold(&outs);
+}
+
+/// Each stream, read and written.
+fn measure_streams(decode: fn(&Stream), encode: fn(&Stream)) {
+    for stream in [Stream::can(), Stream::mixed()] {
+        println!("{} operations, {} bytes", stream.operations.len(), stream.bytes.len());
+        decode(&stream);
+        encode(&stream);
+    }
+}
+
+fn measure_ways() {
     println!(
         "medians of {SAMPLES} samples; ratio: library throughput / that of the row (min..max)"
     );
-    for stream in [Stream::can(), Stream::mixed()] {
-        println!("{} operations, {} bytes", stream.operations.len(), stream.bytes.len());
-        measure_decode(&stream);
-        measure_encode(&stream);
-    }
+    measure_streams(measure_decode, measure_encode);
     bus::measure_all();
+}
+
+fn measure_builds(before: &str, after: &str) -> Result<(), String> {
+    loaded::load(BEFORE, before)?;
+    loaded::load(AFTER, after)?;
+    println!("medians of {SAMPLES} samples; ratio: throughput after / that of the row (min..max)");
+    measure_streams(measure_decode_builds, measure_encode_builds);
+    bus::measure_builds();
+    Ok(())
+}
+
+fn main() -> ExitCode {
+    let arguments: Vec<String> = env::args().skip(1).collect();
+    match &arguments[..] {
+        [] => measure_ways(),
+        [before, after] => {
+            if let Err(error) = measure_builds(before, after) {
+                eprintln!("{error}");
+                return ExitCode::FAILURE;
+            }
+        }
+        _ => {
+            eprintln!("usage: bench [BEFORE.so AFTER.so]");
+            return ExitCode::from(2);
+        }
+    }
+    ExitCode::SUCCESS
 }
