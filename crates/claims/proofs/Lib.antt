@@ -13,3 +13,4 @@ pub mod RoundTrip
 pub mod Machine
 pub mod Entered
 pub mod Exported
+pub mod Refusals

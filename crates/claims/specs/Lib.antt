@@ -2,3 +2,4 @@ pub mod Numbers
 pub mod RoundTrip
 pub mod Demands
 pub mod Exported
+pub mod Refusals

@@ -1,4 +1,4 @@
--- Believed. The content rules (01, "Operations as bytes": ranges and values of fields), one test a rule.
+-- Believed. The content rules (01, "Operations as bytes": ranges and values of fields; 02, wish 7), one test a rule.
 -- Assumes nothing.
 use Prim.Native.Nat.{ℕ}
 use mathlib.Core.List.{List, [], _∷_}
@@ -64,9 +64,13 @@ behaviours = 1 ∷ 2 ∷ []
 abbrev pub settingRule : ℕ → ℕ → Bool
 settingRule kind value = cond (eqb kind 4) (oneOf value behaviours) (leb 1 value)
 
+-- a remote frame (Rtr 1) has no data field: its DL is 0 (02, wish 7)
+abbrev pub remoteRule : ℕ → ℕ → Bool
+remoteRule rtr dl = eqb rtr 0 || eqb dl 0
+
 unfoldable pub rules : Operation → List Bool
 rules (FormatError n) = []
-rules (CanTransmit id ide rtr dl) = isBit ide ∷ leb id (maxId ide) ∷ isBit rtr ∷ canLength dl ∷ []
+rules (CanTransmit id ide rtr dl) = isBit ide ∷ leb id (maxId ide) ∷ isBit rtr ∷ canLength dl ∷ remoteRule rtr dl ∷ []
 rules (FdTransmit id ide brs esi dl) = isBit ide ∷ leb id (maxId ide) ∷ isBit brs ∷ isBit esi ∷ fdLength dl ∷ []
 rules (XlTransmit id ide sec sdt vcid af dl) = isBit ide ∷ leb id (maxId ide) ∷ isBit sec ∷ xlLength dl ∷ []
 rules (Confirm id) = leb id maxExtendedId ∷ []

@@ -3,7 +3,8 @@
 ghost use mathlib.Core.Path.{_≡_};
 ghost use Prim.Native.Nat.{_≤_};
 ghost use Rattle.operation.specs.Format.{headLength, dataLength, configurationLength};
-ghost use Rattle.operation.specs.Rules.{isBit, maxId, oneOf, fdLength, errorCodes, errorFlags, behaviours, settingRule, legal};
+ghost use mathlib.Core.Bool.{_&&_};
+ghost use Rattle.operation.specs.Rules.{isBit, maxId, oneOf, fdLength, canLength, remoteRule, errorCodes, errorFlags, behaviours, settingRule, legal};
 
 // Largest IDs of 11 and 29 bits.
 pub const MAX_STANDARD_ID: u32 = 2047;
@@ -233,6 +234,14 @@ fn is_fd_length(dl: u16) -> bool
         | (dl == 64)
 }
 
+// Rtr is a bit, there are at most eight data bytes, and none with Rtr 1: by one comparison, since every call asks it of
+// every pending frame.
+fn is_can_length(rtr: u8, dl: u16) -> bool
+    ensures { λ r. ⌜ r ≡ (isBit rtr && canLength dl && remoteRule rtr dl) ⌝ }
+{
+    8 * (rtr as u32) + (dl as u32) <= 8
+}
+
 // Of any number, for an injected error too.
 pub fn is_error_code(x: u32) -> bool
     ensures { λ r. ⌜ r ≡ oneOf x errorCodes ⌝ }
@@ -262,7 +271,7 @@ pub fn is_behaviour(x: u32) -> bool
 pub fn can_is_legal(id: u32, ide: u8, rtr: u8, dl: u16) -> bool
     ensures { λ r. ⌜ r ≡ legal (Operation.CanTransmit id ide rtr dl) ⌝ }
 {
-    is_bit(ide) & (id <= max_id(ide)) & is_bit(rtr) & (dl <= 8)
+    is_bit(ide) & (id <= max_id(ide)) & is_can_length(rtr, dl)
 }
 
 pub fn fd_is_legal(id: u32, ide: u8, brs: u8, esi: u8, dl: u16) -> bool

@@ -10,7 +10,9 @@ use Rattle.operation.specs.Rules.{legal}
 use Rattle.operation.specs.declared.Operation.{Operation}
 use Rattle.operation.specs.declared.Operation.the-variants.{CanTransmit, FdTransmit, XlTransmit, Confirm, ArbitrationLost, Configuration}
 use Rattle.decoder.specs.Front.{front}
+use Rattle.decoder.specs.Reading.{readAt, dataAt}
 use Rattle.decoder.specs.Stream.{Item, itemsOf}
+use Rattle.decoder.specs.declared.Reading.{Reading}
 use Rattle.decoder.specs.declared.Front.{Front}
 use Rattle.decoder.specs.declared.Front.the-variants.{Fault}
 use Rattle.plain_bus.specs.Held.{Node, Bus}
@@ -18,18 +20,20 @@ use Rattle.plain_bus.specs.Refusal.{fourPending}
 use Rattle.plain_bus.specs.Round.{noError}
 use Rattle.plain_bus.specs.Calls.{Answer, refused, accepted, carried, answerNumber, start}
 use Rattle.plain_bus.specs.Register.{Register, Update, updateNumber, registerAfter, enter, read}
-use Rattle.plain_bus.specs.Session.{Call, submission, round, calls, answers}
+use Rattle.plain_bus.specs.Session.{Call, submission, round, calls, answers, times}
 use Rattle.plain_bus.specs.Network.{NodeRegisters, newNetwork, play}
 
--- what a line asks: the bytes of an operation; whether it, or each of some, meets the content rules; what stands at the front of
--- some bytes, or in all of them; of a session of so many nodes, how it ends, or the numbers of its answers, or the settings at its
--- end, or what the registers have open; how a session ends that starts from a given bus; what entering, or reading, some bytes
--- does to a register
+-- what a line asks: the bytes of an operation; whether it meets the content rules; what stands at the front of some bytes, in all of
+-- them, or at a position; the data of an operation that ends at a position; how often an ID is among some; of a session of so many
+-- nodes, how it ends, or the numbers of its answers, or the settings at its end, or what the registers have open; how a session ends
+-- that starts from a given bus; what entering, or reading, some bytes does to a register
 pub data Question : Type 0 where
   written : Operation → List ℕ → Question
   isLegal : Operation → Question
-  eachLegal : List Operation → Question
   frontOf itemsIn : List ℕ → Question
+  readFrom : List ℕ → ℕ → Question
+  dataOf : List ℕ → Operation → ℕ → Question
+  timesIn : ℕ → List ℕ → Question
   session numbered settled registered : ℕ → List Call → Question
   sessionFrom : Bus → List Call → Question
   entering reading : Register → List ℕ → Question
@@ -40,9 +44,9 @@ pub data Question : Type 0 where
 pub data Reply : Type 0 where
   bytes : List ℕ → Reply
   truth : Bool → Reply
-  truths : List Bool → Reply
   stands : Front → Reply
   items : List Item → Reply
+  reads : Reading → Reply
   ends : List Answer → List ℕ → List (List ℕ) → Reply
   numbers : List ℕ → Reply
   settings : ℕ → List (List ℕ) → Reply
@@ -66,9 +70,11 @@ inRegister r u = opens (updateNumber u ∷ []) (registerAfter r u .opened ∷ []
 unfoldable pub reply : Question → Reply
 reply (written op payload) = bytes (encode op payload)
 reply (isLegal op) = truth (legal op)
-reply (eachLegal ops) = truths (map legal ops)
 reply (frontOf s) = stands (front s)
 reply (itemsIn s) = items (itemsOf s)
+reply (readFrom s at) = reads (readAt s at)
+reply (dataOf s op end) = bytes (dataAt s op end)
+reply (timesIn id ids) = numbers (times id ids ∷ [])
 reply (session n cs) = atEnd (answers cs (start n .bus)) (calls cs (start n .bus))
 reply (sessionFrom b cs) = atEnd (answers cs b) (calls cs b)
 reply (numbered n cs) = numbers (map answerNumber (start n .answer ∷ answers cs (start n .bus)))
@@ -143,6 +149,7 @@ table =
     ∷ isLegal (CanTransmit 2_048 0 0 0) gives truth false
     ∷ isLegal (FdTransmit 536_870_911 1 0 0 0) gives truth true
     ∷ isLegal (XlTransmit 536_870_912 1 0 0 0 0 1) gives truth false
+    -- W9 means Rtr 0 (02, wish 7)
     ∷ isLegal (CanTransmit 1 0 0 8) gives truth true
     ∷ isLegal (CanTransmit 1 0 0 9) gives truth false
     ∷ isLegal (FdTransmit 1 0 0 0 9) gives truth false
