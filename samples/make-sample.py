@@ -99,8 +99,10 @@ STREAM = [
     operation(0x40, bytes([1, 0x05])),
     operation(0x40, bytes([5, 0, 0, 0, 0])),
     operation(0x10, struct.pack("<IBBH", 15, 0, 0, 3), bytes.fromhex("AA BB")),
-    # Fault 5: an ID of 2,048 with Ide 0; an FD frame of 9 bytes; status 4.
+    # Fault 5: an ID of 2,048 with Ide 0; a remote frame with data, as old recordings have it; an FD
+    # frame of 9 bytes; status 4.
     can(2048, 0, 0, b""),
+    can(256, 0, 1, bytes(range(1, 9))),
     can_fd(1, 0, 0, 0, bytes(9)),
     status(4),
     # Reading goes on behind these faults.
