@@ -34,12 +34,13 @@ pub const CODES: [u32; 10] = [
 ];
 
 /// Each content rule of each kind.
-pub const BREAKABLE: [(u32, Rule); 26] = [
+pub const BREAKABLE: [(u32, Rule); 27] = [
     (codec::CAN_TRANSMIT, Rule::Ide),
     (codec::CAN_TRANSMIT, Rule::Rtr),
     (codec::CAN_TRANSMIT, Rule::StandardId),
     (codec::CAN_TRANSMIT, Rule::ExtendedId),
     (codec::CAN_TRANSMIT, Rule::DataLength),
+    (codec::CAN_TRANSMIT, Rule::RemoteData),
     (codec::FD_TRANSMIT, Rule::Ide),
     (codec::FD_TRANSMIT, Rule::Brs),
     (codec::FD_TRANSMIT, Rule::Esi),
@@ -137,8 +138,10 @@ impl Generator {
         match code {
             codec::FORMAT_ERROR => Operation::FormatError { length: self.free_length() },
             codec::CAN_TRANSMIT => {
-                let length = random.below(9) as u16;
-                Operation::CanTransmit { id: self.id(ide), ide, rtr: flag_1, length }
+                // One in four is a remote frame.
+                let rtr = flag_1 & flag_2;
+                let length = if rtr == 1 { 0 } else { random.below(9) as u16 };
+                Operation::CanTransmit { id: self.id(ide), ide, rtr, length }
             }
             codec::FD_TRANSMIT => {
                 let length = random.pick(&FD_LENGTHS);
@@ -208,7 +211,17 @@ impl Generator {
         match &mut op {
             Operation::CanTransmit { id, ide, rtr, length } => match broken {
                 Rule::Rtr => *rtr = random.no_flag(),
-                Rule::DataLength => *length = random.pick(&[9, 9, 10, 15, 16, 64, 255, 256, 257]),
+                Rule::DataLength => {
+                    let lengths = [9, 9, 10, 15, 16, 64, 255, 256, 257];
+                    (*rtr, *length) = (0, random.pick(&lengths));
+                }
+                Rule::RemoteData => {
+                    *rtr = 1;
+                    // A longer one was broken before.
+                    if *length <= 8 {
+                        *length = 1 + random.below(8) as u16;
+                    }
+                }
                 _ => break_id(random, id, ide, broken),
             },
             Operation::FdTransmit { id, ide, brs, esi, length } => match broken {

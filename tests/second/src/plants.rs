@@ -9,7 +9,7 @@ use kettlefrost::raw;
 use crate::codec::{self, Operation};
 use crate::comparison::{Codec, Second};
 use crate::generate::{data_start, CODES};
-use crate::wrong_content::{parsed, wrong_content, WrongRule};
+use crate::wrong_content::{wrong_content, WrongRule};
 
 use Alteration::{Data, Read, ReadContent, Write, WriteContent};
 
@@ -300,7 +300,7 @@ impl Reading<'_> {
     /// Judges the content by other rules.
     fn judge(&mut self, is_sound: impl Fn(&Operation) -> bool) {
         if self.is_found() || self.given.fault == 5 {
-            let op = parsed(self.piece()).expect("faults 3 and 4 come first");
+            let op = codec::parsed(self.piece()).expect("faults 3 and 4 come first");
             if is_sound(&op) {
                 self.find(&op);
             } else {
@@ -400,7 +400,7 @@ fn one_short<const CODE: u32>(r: &mut Reading) {
 }
 
 fn find_sound(r: &mut Reading, code: u32, bytes: Vec<u8>) {
-    if let Some(op) = parsed(&bytes).filter(|op| op.code() == code && op.is_sound()) {
+    if let Some(op) = codec::parsed(&bytes).filter(|op| op.code() == code && op.is_sound()) {
         r.find(&op);
     }
 }
@@ -448,7 +448,7 @@ fn content_first(r: &mut Reading) {
 
 fn range_as_length(r: &mut Reading) {
     if r.given.fault == 5 {
-        let op = parsed(r.piece()).expect("faults 3 and 4 come first");
+        let op = codec::parsed(r.piece()).expect("faults 3 and 4 come first");
         op.check(|rule| {
             if rule == codec::Rule::DataLength {
                 r.given.fault = 4

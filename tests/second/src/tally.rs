@@ -210,7 +210,7 @@ fn mismatch(piece: &[u8]) -> Mismatch {
 }
 
 fn content_breach(piece: &[u8]) -> Breach {
-    let op = codec::parse(number(piece), &piece[8..]).expect("faults 3 and 4 come first");
+    let op = codec::parsed(piece).expect("faults 3 and 4 come first");
     only_one(broken_rules(&op))
 }
 
@@ -290,6 +290,7 @@ impl fmt::Display for Rule {
             Rule::ExtendedId => "ID with Ide 1",
             Rule::Id => "ID",
             Rule::DataLength => "DL",
+            Rule::RemoteData => "remote frame with data",
             Rule::Kind => "kind",
             Rule::BaudRate => "baud rate",
             Rule::Behaviour => "behaviour",

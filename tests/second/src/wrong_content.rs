@@ -27,7 +27,7 @@ const WRONG_CONTENT: &[(u32, &str, Wrong)] = &[
     (CAN, "Ide 2 passes", Passes(|op| matches!(op, CanTransmit { ide: 2, .. }))),
     (CAN, "Ide 1 is refused", Refused(|op| matches!(op, CanTransmit { ide: 1, .. }))),
     (CAN, "Rtr 2 passes", Passes(|op| matches!(op, CanTransmit { rtr: 2, .. }))),
-    (CAN, "Rtr 1 is refused", Refused(|op| matches!(op, CanTransmit { rtr: 1, .. }))),
+    (CAN, "Rtr 1 is refused with DL 0", Refused(|op| matches!(op, CanTransmit { rtr: 1, .. }))),
     (FD, "Ide 2 passes", Passes(|op| matches!(op, FdTransmit { ide: 2, .. }))),
     (FD, "Ide 1 is refused", Refused(|op| matches!(op, FdTransmit { ide: 1, .. }))),
     (FD, "Brs 2 passes", Passes(|op| matches!(op, FdTransmit { brs: 2, .. }))),
@@ -167,7 +167,7 @@ impl WrongRule {
             match op {
                 Ok(op) if !self.is_sound(&op) => out[start + 1] = 0xFF,
                 Err(5) => {
-                    let op = parsed(bytes).expect("faults 3 and 4 come first");
+                    let op = codec::parsed(bytes).expect("faults 3 and 4 come first");
                     if self.is_sound(&op) {
                         out.truncate(start);
                         out.extend(mended_bytes(&op, bytes));
@@ -178,12 +178,6 @@ impl WrongRule {
         }
         out
     }
-}
-
-/// The operation of these bytes, the content rules unasked.
-pub fn parsed(bytes: &[u8]) -> Option<Operation> {
-    let code = u32::from_le_bytes(*bytes.first_chunk()?);
-    codec::parse(code, bytes.get(8..)?).ok()
 }
 
 fn mended_bytes(op: &Operation, bytes: &[u8]) -> Vec<u8> {
@@ -198,7 +192,9 @@ pub fn mended(op: &Operation) -> Operation {
     match *op {
         CanTransmit { id, ide, rtr, length } => {
             let (id, ide) = mended_id(id, ide);
-            CanTransmit { id, ide, rtr: rtr.min(1), length: length.min(8) }
+            let (rtr, length) = (rtr.min(1), length.min(8));
+            let rtr = if codec::rtr_allows(rtr, length) { rtr } else { 0 };
+            CanTransmit { id, ide, rtr, length }
         }
         FdTransmit { id, ide, brs, esi, length } => {
             let (id, ide) = mended_id(id, ide);
