@@ -1,6 +1,6 @@
 //! Wrong buses, to see that the comparison finds them. Each is the second bus
 //! with one rule altered; its name says what is wrong, the words above it are
-//! those of 01 that it breaks.
+//! those of 01 that it breaks, or of 02 where that is said.
 
 mod memory;
 mod rounds;
@@ -236,6 +236,14 @@ const PLANTS: &[Row] = &[
     ("a Bus Error has no effect", |p| p.skip(|s| matches!(s.op, Ok(Operation::BusError { .. })))),
     ("a Bus-Off node's faults are not answered", |p| p.skip(|s| s.bus_off && s.op.is_err())),
     ("a Bus-Off node's closings are not answered", |p| p.skip(|s| s.bus_off && s.is_closing())),
+    // 02: "Hand-in answers such a frame with Format Error"
+    ("a remote frame with data has no effect", |p| p.skip(is_remote)),
+    ("a Bus-Off node's remote frame with data has no effect", |p| p.skip(is_bus_off_remote)),
+    ("a Bus-Off node's remote frame with data is never 9", |p| no_room_asked(p, is_bus_off_remote)),
+    ("a remote frame with data is never 9", |p| no_room_asked(p, is_remote)),
+    ("a remote frame with data is a fifth frame", count_remote),
+    ("a remote frame becomes pending without its data", strip_remote),
+    ("a Format Error of a remote frame without its data", answer_remote_in_part),
     ("a Format Error without the last byte", cut_format_error),
     ("a Format Error goes to the next node too", format_error_to_next),
     // "The buffer is taken whole or refused whole."

@@ -9,8 +9,9 @@ use crate::counts::Counts;
 use crate::invalid::Invalid;
 use crate::lent::Injection;
 use crate::memory::{Call, Sizes};
+use crate::remote::Remote;
 use crate::session;
-use crate::session_tally::{CallKind, SessionTally};
+use crate::session_tally::{while_bus_off, CallKind, SessionTally};
 
 /// A part of the lent memory.
 #[derive(Clone, Copy, Debug, PartialEq, Eq, PartialOrd, Ord)]
@@ -69,6 +70,10 @@ pub enum Outcome {
     },
     /// Refusal 9 by the queue of another node.
     WakeupFailed,
+    /// Refusal 9 by the Format Error for a remote frame with data.
+    RemoteFailed {
+        bus_off: bool,
+    },
     BadInjection(BadInjection),
     CollectedTo(Room),
     /// The sender discards, and had later frames than the one that won.
@@ -166,6 +171,7 @@ impl BusTally {
     /// buffer that is refused ends with it.
     fn failed(&mut self, before: &Bus, node: usize, buffer: &[u8], number: u8) {
         let (mut end, mut step) = (0, FailingStep::First);
+        let mut bus_off = before.nodes[node].is_bus_off();
         for (op, bytes) in codec::operations(buffer) {
             end += bytes.len();
             if before.clone().submit(node, &buffer[..end]).is_err() {
@@ -173,7 +179,13 @@ impl BusTally {
                 if op == Ok(Operation::Wakeup) {
                     self.rows.count(Outcome::WakeupFailed);
                 }
+                if Remote::of(op, bytes) == Some(Remote::WithData) {
+                    self.rows.count(Outcome::RemoteFailed { bus_off });
+                }
                 return;
+            }
+            if let Ok(Operation::Status { status }) = op {
+                bus_off = status == codec::BUS_OFF;
             }
             step = match step {
                 _ if op == Ok(Operation::BUS_OFF) => FailingStep::BehindBusOff,
@@ -268,6 +280,7 @@ fn outcomes() -> Vec<Outcome> {
             all.extend(Size::ALL.map(|size| Outcome::WrongMemory(call, part, size)));
         }
     }
+    all.extend([false, true].map(|bus_off| Outcome::RemoteFailed { bus_off }));
     all.extend([2, 3].map(Outcome::WrongMemoryFirst));
     all.extend(Invalid::all().into_iter().map(Outcome::Invalid));
     all.extend([Submit, Round, Collect].map(Outcome::InvalidIn));
@@ -303,6 +316,10 @@ impl fmt::Display for Outcome {
                     FailingStep::BehindBusOff => "a step behind its Bus-Off",
                 };
                 write!(f, "Submit refused with {number} by {step}")
+            }
+            Outcome::RemoteFailed { bus_off } => {
+                let bus_off = while_bus_off(bus_off);
+                write!(f, "Submit refused with 9 by a remote frame with data{bus_off}")
             }
             other => write!(f, "{other:?}"),
         }

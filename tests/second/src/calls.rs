@@ -193,8 +193,10 @@ impl Calls {
             58..66 => self.status(node),
             66..74 => self.closing(),
             74..78 => self.format_error(),
-            78..87 => self.generator.encoded_broken(),
-            87..97 => self.generator.mangled(),
+            78..85 => self.generator.encoded_broken(),
+            85..87 => self.generator.encoded_remote(),
+            87..96 => self.generator.mangled(),
+            96 => self.fitted_remote(node),
             _ => self.fitted_fault(node),
         }
     }
@@ -265,6 +267,22 @@ impl Calls {
             0 => fitting + 1,
             _ => fitting.saturating_sub(leave),
         };
+        self.fault(length)
+    }
+
+    /// A remote frame with data behind a fault that leaves its Format Error room
+    /// in the queue, or one byte less.
+    fn fitted_remote(&mut self, node: &Node) -> Vec<u8> {
+        let remote = self.generator.encoded_remote();
+        let needed = FORMAT_ERROR_HEADER + remote.len();
+        let leave = self.random.pick(&[needed, needed - 1]);
+        let mut bytes = self.fault(node.room().saturating_sub(FORMAT_ERROR_HEADER + leave));
+        bytes.extend(remote);
+        bytes
+    }
+
+    /// A fault that takes up so many bytes, or as near as it can be.
+    fn fault(&mut self, length: usize) -> Vec<u8> {
         let length = length.clamp(8, LONGEST_BUFFER);
         let mut bytes = self.generator.bytes(length);
         let [l0, l1, ..] = length.to_le_bytes();

@@ -66,6 +66,8 @@ pub enum Rule {
     /// The ID of an operation that has no Ide.
     Id,
     DataLength,
+    /// A remote frame carries no data.
+    RemoteData,
     Kind,
     BaudRate,
     Behaviour,
@@ -189,6 +191,13 @@ pub fn parse(code: u32, fields: &[u8]) -> Result<Operation, u8> {
     }
 }
 
+/// The operation of these bytes, code and length included. The content rules are
+/// not asked.
+pub fn parsed(bytes: &[u8]) -> Option<Operation> {
+    let code = u32::from_le_bytes(*bytes.first_chunk()?);
+    parse(code, bytes.get(START..)?).ok()
+}
+
 /// Parts fields of a fixed size from what follows them.
 fn split<const N: usize>(fields: &[u8]) -> Result<(&[u8; N], &[u8]), u8> {
     fields.split_first_chunk().ok_or(4)
@@ -291,6 +300,13 @@ impl Operation {
         }
     }
 
+    /// Whether this content rule is broken, and no other.
+    pub fn breaks_only(&self, rule: Rule) -> bool {
+        let (mut broken, mut others) = (false, false);
+        self.check(|other| if other == rule { broken = true } else { others = true });
+        broken && !others
+    }
+
     /// Whether every content rule holds.
     #[inline(always)]
     pub fn is_sound(&self) -> bool {
@@ -312,6 +328,7 @@ impl Operation {
                 check_id(&mut rule, id, ide);
                 rule(Rule::Rtr, rtr <= 1);
                 rule(Rule::DataLength, length <= 8);
+                rule(Rule::RemoteData, rtr_allows(rtr, length));
             }
             Operation::FdTransmit { id, ide, brs, esi, length } => {
                 check_id(&mut rule, id, ide);
@@ -403,6 +420,13 @@ fn check_id(rule: &mut impl FnMut(Rule, bool), id: u32, ide: u8) {
 /// Whether the table of Error Codes has this value.
 pub fn is_error_code(code: u8) -> bool {
     (1..=6).contains(&code)
+}
+
+/// Whether a CAN Transmit with this Rtr can have this DL: a remote frame carries
+/// no data (02, Wish 7). The rule stands here alone.
+#[inline]
+pub fn rtr_allows(rtr: u8, length: u16) -> bool {
+    rtr != 1 || length == 0
 }
 
 /// Whether the DL of an FD Transmit can be this.
@@ -517,6 +541,7 @@ mod tests {
         }
     }
 
+    /// W9 means Rtr 0 (02, Wish 7).
     #[test]
     fn w9_data_lengths() {
         for length in 0..=70 {
@@ -527,6 +552,38 @@ mod tests {
         }
         check(xl(1, 0, 2_048), true);
         check(xl(1, 0, 2_049), false);
+    }
+
+    fn can_with_rtr(rtr: u8, length: u16) -> Operation {
+        Operation::CanTransmit { id: 1, ide: 0, rtr, length }
+    }
+
+    #[test]
+    fn a_remote_frame_carries_no_data() {
+        for length in 0..=9 {
+            check(can_with_rtr(0, length), length <= 8);
+            check(can_with_rtr(1, length), length == 0);
+            check(can_with_rtr(2, length), false);
+        }
+        assert!(can_with_rtr(1, 8).breaks_only(Rule::RemoteData));
+        assert!(can_with_rtr(2, 8).breaks_only(Rule::Rtr));
+        assert!(!can_with_rtr(1, 9).breaks_only(Rule::RemoteData));
+        assert_eq!(written(can_with_rtr(1, 8), &[]), Err(7));
+        assert_eq!(written(can_with_rtr(1, 0), &[0xD5]), Err(7));
+    }
+
+    #[test]
+    fn a_remote_frame_of_another_length_is_fault_4() {
+        for dl in 1..=8 {
+            let whole = bytes(can_with_rtr(1, dl));
+            let own = whole.len();
+            for length in (16..30).filter(|&length| length != own) {
+                let mut other = whole.clone();
+                other.resize(length, 0xD5);
+                other[4] = length as u8;
+                assert_eq!(fault(&other), Some((4, length)));
+            }
+        }
     }
 
     #[test]

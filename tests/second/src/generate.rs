@@ -34,12 +34,13 @@ pub const CODES: [u32; 10] = [
 ];
 
 /// Each content rule of each kind.
-pub const BREAKABLE: [(u32, Rule); 26] = [
+pub const BREAKABLE: [(u32, Rule); 27] = [
     (codec::CAN_TRANSMIT, Rule::Ide),
     (codec::CAN_TRANSMIT, Rule::Rtr),
     (codec::CAN_TRANSMIT, Rule::StandardId),
     (codec::CAN_TRANSMIT, Rule::ExtendedId),
     (codec::CAN_TRANSMIT, Rule::DataLength),
+    (codec::CAN_TRANSMIT, Rule::RemoteData),
     (codec::FD_TRANSMIT, Rule::Ide),
     (codec::FD_TRANSMIT, Rule::Brs),
     (codec::FD_TRANSMIT, Rule::Esi),
@@ -95,14 +96,16 @@ impl Generator {
         match self.random.below(1000) {
             0..200 => Case::Walk { buf: self.buffer() },
             200..330 => self.read_mangled(),
-            330..430 => self.read_broken(),
+            330..415 => self.read_broken(),
+            415..430 => self.read_remote(),
             430..520 => self.read_anywhere(),
             520..560 => Case::Read { buf: self.random_bytes(), at: 0 },
             560..630 => Case::Read { buf: self.plausible_bytes(), at: 0 },
             630..640 => self.cuts(),
             640..680 => self.data_anywhere(),
             680..830 => self.write_sound(),
-            830..930 => self.write_broken(),
+            830..915 => self.write_broken(),
+            915..930 => self.write_remote(),
             930..980 => self.write_data_off(),
             980..998 => self.write_unknown(),
             _ => self.write_large(),
@@ -137,8 +140,10 @@ impl Generator {
         match code {
             codec::FORMAT_ERROR => Operation::FormatError { length: self.free_length() },
             codec::CAN_TRANSMIT => {
-                let length = random.below(9) as u16;
-                Operation::CanTransmit { id: self.id(ide), ide, rtr: flag_1, length }
+                // One in four is a remote frame.
+                let rtr = flag_1 & flag_2;
+                let length = if rtr == 1 { 0 } else { random.below(9) as u16 };
+                Operation::CanTransmit { id: self.id(ide), ide, rtr, length }
             }
             codec::FD_TRANSMIT => {
                 let length = random.pick(&FD_LENGTHS);
@@ -208,7 +213,17 @@ impl Generator {
         match &mut op {
             Operation::CanTransmit { id, ide, rtr, length } => match broken {
                 Rule::Rtr => *rtr = random.no_flag(),
-                Rule::DataLength => *length = random.pick(&[9, 9, 10, 15, 16, 64, 255, 256, 257]),
+                Rule::DataLength => {
+                    let lengths = [9, 9, 10, 15, 16, 64, 255, 256, 257];
+                    (*rtr, *length) = (0, random.pick(&lengths));
+                }
+                Rule::RemoteData => {
+                    *rtr = 1;
+                    // A longer one was broken before.
+                    if *length <= 8 {
+                        *length = 1 + random.below(8) as u16;
+                    }
+                }
                 _ => break_id(random, id, ide, broken),
             },
             Operation::FdTransmit { id, ide, brs, esi, length } => match broken {
@@ -244,6 +259,12 @@ impl Generator {
         op
     }
 
+    /// A remote frame with data, of DL 1 to 8.
+    fn remote_with_data(&mut self) -> Operation {
+        let op = self.sound_of(codec::CAN_TRANSMIT);
+        self.break_rule(op, Rule::RemoteData)
+    }
+
     // Buffers to read.
 
     /// An operation as bytes, sound or not, with data of its own length.
@@ -260,6 +281,19 @@ impl Generator {
     pub fn encoded_broken(&mut self) -> Vec<u8> {
         let op = self.broken();
         self.encoded(&op)
+    }
+
+    /// A remote frame with data as bytes; at times not of their length, but of one
+    /// off, or of that without data.
+    pub fn encoded_remote(&mut self) -> Vec<u8> {
+        let op = self.remote_with_data();
+        let mut buf = self.encoded(&op);
+        if self.random.once_in(4) {
+            let own = buf.len();
+            buf.resize(self.random.pick(&[op.header_length(), own - 1, own + 1]), 0);
+            put_own_length(&mut buf);
+        }
+        buf
     }
 
     /// An operation as bytes, spoiled in one place.
@@ -317,10 +351,11 @@ impl Generator {
     fn buffer(&mut self) -> Vec<u8> {
         let mut buf = Vec::new();
         for _ in 0..self.random.below(7) {
-            let piece = match self.random.below(10) {
-                0..6 => self.encoded_sound(),
-                6..8 => self.mangled(),
-                _ => self.encoded_broken(),
+            let piece = match self.random.below(40) {
+                0..24 => self.encoded_sound(),
+                24..32 => self.mangled(),
+                32..39 => self.encoded_broken(),
+                _ => self.encoded_remote(),
             };
             buf.extend(piece);
         }
@@ -356,6 +391,11 @@ impl Generator {
             }
         }
         let piece = self.encoded(&op);
+        self.placed(piece)
+    }
+
+    fn read_remote(&mut self) -> Case {
+        let piece = self.encoded_remote();
         self.placed(piece)
     }
 
@@ -410,7 +450,9 @@ impl Generator {
 
     /// Data at a place where the operation was not read.
     fn data_anywhere(&mut self) -> Case {
-        let op = self.sound();
+        // The data go by DL alone: no content rule is asked.
+        let remote = self.random.once_in(16);
+        let op = if remote { self.remote_with_data() } else { self.sound() };
         let size = self.random.below(100) + op.data_length() * self.random.below(2);
         let buf = self.bytes(size);
         let whole = op.header_length() + op.data_length();
@@ -433,6 +475,14 @@ impl Generator {
     fn write_broken(&mut self) -> Case {
         let op = self.broken();
         let data = self.bytes(op.data_length());
+        self.write(&op, data)
+    }
+
+    /// A remote frame with data; at times these are left out, and DL is not.
+    fn write_remote(&mut self) -> Case {
+        let op = self.remote_with_data();
+        let length = if self.random.once_in(4) { 0 } else { op.data_length() };
+        let data = self.bytes(length);
         self.write(&op, data)
     }
 

@@ -369,7 +369,7 @@ fn is_legal(slot: &Slot) -> bool {
         return false;
     }
     match slot.kind.into() {
-        codec::CAN_TRANSMIT => slot.length <= 8,
+        codec::CAN_TRANSMIT => slot.length <= 8 && codec::rtr_allows(slot.second, slot.length),
         codec::FD_TRANSMIT => slot.third <= 1 && codec::is_fd_length(slot.length),
         codec::XL_TRANSMIT => (1..=2_048).contains(&slot.length),
         _ => false,

@@ -6,8 +6,9 @@
 //! and measured is what a user of Rust calls.
 //!
 //! Each comparison first has to find the wrong programs that are planted for it: one
-//! or more for each rule of 01, and those that 01 names (`plants`, `bus_plants`,
-//! `register_plants`, `wrong_content`). It says after how many calls it does.
+//! or more for each rule of 01 and of 02's Wish 7, and those that 01 names (`plants`,
+//! `bus_plants`, `register_plants`, `wrong_content`). It says after how many calls it
+//! does.
 //!
 //! - `cargo test` holds codec, buses and register against W1 to W10 and the easy
 //!   errors, and demand 3 against random sessions,
@@ -47,6 +48,7 @@ pub mod register_cases;
 pub mod register_comparison;
 pub mod register_plants;
 pub mod registers;
+pub mod remote;
 pub mod session;
 pub mod session_tally;
 pub mod tally;

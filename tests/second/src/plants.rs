@@ -1,15 +1,16 @@
 //! Wrong codecs, to see that the comparison finds them. Each is the second
 //! codec with one rule altered; its name says what is wrong, the words above it
-//! are those of 01 that it breaks.
+//! are those of 01 that it breaks, or of 02 where that is said.
 
 use std::mem::swap;
 
 use kettlefrost::raw;
 
-use crate::codec::{self, Operation};
+use crate::codec::{self, Operation, Rule};
 use crate::comparison::{Codec, Second};
 use crate::generate::{data_start, CODES};
-use crate::wrong_content::{parsed, wrong_content, WrongRule};
+use crate::remote::Remote;
+use crate::wrong_content::{wrong_content, WrongRule};
 
 use Alteration::{Data, Read, ReadContent, Write, WriteContent};
 
@@ -153,6 +154,7 @@ const PLANTS: &[(&str, Alteration)] = &[
     ("data of FD one early", Data(one_early::<0x11>)),
     ("data of XL one early", Data(one_early::<0x12>)),
     ("data of a Format Error not handed back", Data(|op, part| { if op.code == 0x01 { *part = raw::Part::default() } })),
+    ("data of a remote frame not handed back", Data(no_remote_data)),
     // "each reading gives the operation and the place after it, or says that the end is reached
     // (its place is at or past the buffer's length), or gives a fault"
     ("the place after an operation one early", Read(|r| r.given.next -= usize::from(r.is_found()))),
@@ -183,7 +185,16 @@ const PLANTS: &[(&str, Alteration)] = &[
     ("too short to hold the kind is fault 2", Read(too_short::<0x40>)),
     // "5, content rule broken."
     ("fault 5 before 4", Read(content_first)),
-    ("a DL out of its range is fault 4", Read(range_as_length)),
+    ("a DL out of its range is fault 4", Read(|r| content_as_length(r, Rule::DataLength))),
+    // 02: "Reading and writing now treat Rtr 1 with DL above 0 as a broken content rule
+    // (fault 5, refusal 7)."
+    ("a remote frame with data is fault 4", Read(|r| content_as_length(r, Rule::RemoteData))),
+    ("a remote frame with data is fault 5 before 4", Read(remote_first)),
+    ("read: a remote frame takes 16 bytes, whatever its DL", Read(remote_of_16_bytes)),
+    ("read: a remote frame's data are passed over", Read(remote_without_data)),
+    ("write: a remote frame takes 16 bytes, whatever its DL", Write(write_remote_dl)),
+    ("write: a remote frame's data are passed over", Write(write_remote_without_data)),
+    ("write: a remote frame with data is refused with 11 before 7", Write(remote_room_first)),
     // "A fault of 1 or 2 takes up all the rest of the buffer; of 3 to 5, the stated length."
     ("fault 1 takes up one byte", Read(|r| r.takes(1, r.at + 1))),
     ("fault 2 takes up eight bytes", Read(|r| r.takes(2, r.at + 8))),
@@ -297,10 +308,20 @@ impl Reading<'_> {
         }
     }
 
+    /// Whether the fault is a remote frame with data.
+    fn is_remote_with_data(&self) -> bool {
+        self.given.fault == 5 && Remote::of(Err(5), self.piece()) == Some(Remote::WithData)
+    }
+
+    /// Whether the fault is a remote frame with data that is not of their length.
+    fn is_remote_off(&self) -> bool {
+        self.given.fault == 4 && Remote::of(Err(4), self.piece()) == Some(Remote::WrongLength)
+    }
+
     /// Judges the content by other rules.
     fn judge(&mut self, is_sound: impl Fn(&Operation) -> bool) {
         if self.is_found() || self.given.fault == 5 {
-            let op = parsed(self.piece()).expect("faults 3 and 4 come first");
+            let op = codec::parsed(self.piece()).expect("faults 3 and 4 come first");
             if is_sound(&op) {
                 self.find(&op);
             } else {
@@ -333,6 +354,11 @@ impl Writing<'_> {
         if self.op.code == code {
             self.patch(alter);
         }
+    }
+
+    /// Whether the operation is a remote frame with data by its DL.
+    fn is_remote_with_data(&self) -> bool {
+        Operation::try_from(self.op).is_ok_and(|op| op.breaks_only(Rule::RemoteData))
     }
 
     /// Judges operation and data by other rules.
@@ -400,7 +426,7 @@ fn one_short<const CODE: u32>(r: &mut Reading) {
 }
 
 fn find_sound(r: &mut Reading, code: u32, bytes: Vec<u8>) {
-    if let Some(op) = parsed(&bytes).filter(|op| op.code() == code && op.is_sound()) {
+    if let Some(op) = codec::parsed(&bytes).filter(|op| op.code() == code && op.is_sound()) {
         r.find(&op);
     }
 }
@@ -419,6 +445,12 @@ fn narrow_rate(r: &mut Reading) {
 
 fn one_early<const CODE: u32>(op: &raw::Operation, part: &mut raw::Part) {
     part.start -= usize::from(op.code == CODE && part.length != 0);
+}
+
+fn no_remote_data(op: &raw::Operation, part: &mut raw::Part) {
+    if op.code == 0x10 && op.second == 1 {
+        *part = raw::Part::default();
+    }
 }
 
 fn unknown_code_first(r: &mut Reading) {
@@ -446,14 +478,56 @@ fn content_first(r: &mut Reading) {
     }
 }
 
-fn range_as_length(r: &mut Reading) {
+fn content_as_length(r: &mut Reading, broken: Rule) {
     if r.given.fault == 5 {
-        let op = parsed(r.piece()).expect("faults 3 and 4 come first");
+        let op = codec::parsed(r.piece()).expect("faults 3 and 4 come first");
         op.check(|rule| {
-            if rule == codec::Rule::DataLength {
+            if rule == broken {
                 r.given.fault = 4
             }
         });
+    }
+}
+
+fn remote_first(r: &mut Reading) {
+    if r.is_remote_off() {
+        r.renumber(4, 5);
+    }
+}
+
+/// As on the wire, where DL of a remote frame is that of the data asked for.
+fn remote_of_16_bytes(r: &mut Reading) {
+    if let (true, &[_, _, _, _, 16, _, _, _, i0, i1, i2, i3, ide, rtr, l0, l1]) =
+        (r.is_remote_off(), r.piece())
+    {
+        let (id, length) = (u32::from_le_bytes([i0, i1, i2, i3]), u16::from_le_bytes([l0, l1]));
+        r.find(&Operation::CanTransmit { id, ide, rtr, length });
+    }
+}
+
+fn remote_without_data(r: &mut Reading) {
+    if r.is_remote_with_data() {
+        if let Some(Operation::CanTransmit { id, ide, rtr, .. }) = codec::parsed(r.piece()) {
+            r.find(&Operation::CanTransmit { id, ide, rtr, length: 0 });
+        }
+    }
+}
+
+fn write_remote_dl(w: &mut Writing) {
+    if w.is_remote_with_data() && w.data.is_empty() && w.buf.len() >= 16 {
+        w.answer(0, 16);
+    }
+}
+
+fn write_remote_without_data(w: &mut Writing) {
+    if w.is_remote_with_data() && w.data.len() == usize::from(w.op.length) {
+        *w.given = Second.write(&raw::Operation { length: 0, ..*w.op }, &[], w.buf);
+    }
+}
+
+fn remote_room_first(w: &mut Writing) {
+    if w.is_remote_with_data() && w.buf.len() < 16 + w.data.len() {
+        w.answer(11, 0);
     }
 }
 

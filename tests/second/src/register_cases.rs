@@ -160,6 +160,10 @@ impl RegisterCases {
             let piece = self.operation(&[]);
             self.put_in(&mut pieces, piece);
         }
+        if self.random.once_in(4) {
+            let piece = self.generator.encoded_remote();
+            self.put_in(&mut pieces, piece);
+        }
         if self.random.once_in(3) {
             let mut bus_off = Operation::BUS_OFF.encode(&[]);
             if self.random.once_in(2) {
@@ -221,8 +225,9 @@ impl RegisterCases {
             25..50 => self.closing_of(id),
             50..60 => self.bus_error(id, 0),
             60..70 => Operation::Status { status: self.random.pick(&[1, 2, 3]) }.encode(&[]),
-            70..80 => self.generator.encoded_broken(),
-            80..92 => self.generator.mangled(),
+            70..78 => self.generator.encoded_broken(),
+            78..81 => self.generator.encoded_remote(),
+            81..92 => self.generator.mangled(),
             _ => {
                 let (op, data) = self.generator.sound_with_data();
                 op.encode(&data)

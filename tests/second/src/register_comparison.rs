@@ -12,6 +12,7 @@ use crate::memory::Second;
 use crate::register::{closed_id, REGISTER_CAPACITY};
 use crate::register_cases::{Case, Invalid, RegisterCases};
 use crate::registers::{open_ids, RegisterCall, Registers};
+use crate::remote::Remote;
 
 /// A call that two registers answer in different ways.
 #[derive(Debug)]
@@ -35,6 +36,13 @@ pub enum Outcome {
     Invalid(RegisterCall, Invalid),
     /// An operation in an accepted buffer.
     Taken(RegisterCall, u32),
+    /// A remote frame in an accepted buffer, with data or without.
+    Remote(RegisterCall, Remote),
+    /// A buffer with a remote frame with data and nothing to enter, and the same
+    /// IDs open before and after it.
+    UnchangedByRemote {
+        full: bool,
+    },
     /// A fault in an accepted buffer, and something behind it.
     FaultTaken(RegisterCall, u8),
     EmptyBuffer(RegisterCall),
@@ -133,6 +141,13 @@ impl RegisterComparison {
             self.rows.count(Outcome::AcceptedWideOff);
         }
         self.count_operations(call, open, buffer);
+        let unchanged =
+            answer.register.off == register.off && open_ids(&answer.register) == Some(open);
+        if call == RegisterCall::Enter && register.off == 0 && unchanged && has_only_remote(buffer)
+        {
+            let full = open.len() == REGISTER_CAPACITY;
+            self.rows.count(Outcome::UnchangedByRemote { full });
+        }
         let after = answer.register.count as usize;
         if after == REGISTER_CAPACITY && open.len() < after {
             self.rows.count(Outcome::Filled);
@@ -147,6 +162,9 @@ impl RegisterComparison {
         let (mut end, mut frames, mut bus_off) = (0, open.len(), false);
         for (op, bytes) in codec::operations(buffer) {
             end += bytes.len();
+            if let Some(remote) = Remote::of(op, bytes) {
+                self.rows.count(Outcome::Remote(call, remote));
+            }
             let op = match op {
                 Ok(op) => op,
                 // Behind 1 and 2 there is nothing.
@@ -183,6 +201,15 @@ impl RegisterComparison {
     }
 }
 
+/// Whether a buffer has a remote frame with data, and neither Transmit nor Status.
+fn has_only_remote(buffer: &[u8]) -> bool {
+    let is_entered =
+        |op: Operation| op.transmit_id().is_some() || matches!(op, Operation::Status { .. });
+    let is_remote = |(op, bytes)| Remote::of(op, bytes) == Some(Remote::WithData);
+    codec::operations(buffer).any(is_remote)
+        && !codec::operations(buffer).any(|(op, _)| op.is_ok_and(is_entered))
+}
+
 fn agree(
     call: impl FnOnce() -> String,
     expected: raw::RegisterAnswer,
@@ -204,8 +231,10 @@ fn outcomes() -> Vec<Outcome> {
     all.extend([0, 3, 12].map(|number| Answered(Enter, number)));
     all.extend([0, 3, 13].map(|number| Answered(Read, number)));
     all.extend([3, 12, 13].map(RefusedWithRest));
+    all.extend([false, true].map(|full| UnchangedByRemote { full }));
     for call in [Enter, Read] {
         all.push(EmptyBuffer(call));
+        all.extend(self::Remote::ALL.map(|remote| Remote(call, remote)));
         all.extend(self::Invalid::ALL.map(|invalid| Invalid(call, invalid)));
         all.extend(CODES.map(|code| Taken(call, code)));
         all.extend([1, 2, 3, 4, 5].map(|number| FaultTaken(call, number)));
@@ -220,6 +249,11 @@ impl fmt::Display for Outcome {
             Outcome::Invalid(call, invalid) => write!(f, "{call:?}, invalid: {invalid:?}"),
             Outcome::Taken(call, code) => {
                 write!(f, "{call:?}: {}", codec::name(code).unwrap_or("unknown"))
+            }
+            Outcome::Remote(call, remote) => write!(f, "{call:?}: {}", remote.name()),
+            Outcome::UnchangedByRemote { full } => {
+                let full = if full { ", with 345 open" } else { "" };
+                write!(f, "Enter: unchanged by a remote frame with data{full}")
             }
             Outcome::FaultTaken(call, number) => write!(f, "{call:?}: fault {number}"),
             other => write!(f, "{other:?}"),

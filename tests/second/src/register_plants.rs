@@ -1,6 +1,6 @@
 //! Wrong registers, to see that the comparison finds them. Each is the second
 //! register with one rule altered; its name says what is wrong, the words above
-//! it are those of 01 that it breaks.
+//! it are those of 01 that it breaks, or of 02 where that is said.
 
 use kettlefrost::raw;
 
@@ -8,6 +8,7 @@ use crate::codec::{self, Operation};
 use crate::memory::Second;
 use crate::register::{closed_id, REGISTER_CAPACITY};
 use crate::registers::{open_ids, RegisterCall, Registers};
+use crate::remote::Remote;
 use crate::wrong_content::{wrong_content, WrongRule};
 
 use RegisterCall::{Enter, Read};
@@ -97,6 +98,9 @@ const SESSION_PLANTS: &[Row] = &[
     ("frames are entered while Bus-Off", enter_while_bus_off),
     ("entering stops at a fault", |p| stop_at_fault(p, Enter)),
     ("a closing that was submitted closes", close_submitted),
+    // 02: "Hand-in answers such a frame with Format Error, and the book doesn't enter it."
+    ("a remote frame with data is entered", enter_remote),
+    ("a remote frame without data is not entered", |p| p.skip(Enter, is_remote)),
     // "each Status sets whether the node is Bus-Off, and Status Bus-Off empties the list."
     ("Bus-Off keeps the entries", keep_at_bus_off),
     ("Bus-Off is not noted", |p| p.skip(Enter, |op| *op == Ok(Operation::BUS_OFF))),
@@ -315,6 +319,25 @@ fn remove_last(played: &mut Played) {
 fn enter_while_bus_off(played: &mut Played) {
     if played.is(Enter, 0) && played.before.off != 0 {
         played.instead(&raw::Register { off: 0, ..*played.before }, played.buffer);
+    }
+}
+
+fn is_remote(op: &Result<Operation, u8>) -> bool {
+    matches!(op, Ok(Operation::CanTransmit { rtr: 1, .. }))
+}
+
+fn enter_remote(played: &mut Played) {
+    if played.call == Some(Enter) {
+        let mut buffer = Vec::new();
+        for (op, bytes) in codec::operations(played.buffer) {
+            let start = buffer.len();
+            buffer.extend_from_slice(bytes);
+            if Remote::of(op, bytes) == Some(Remote::WithData) {
+                // Rtr, which makes it an ordinary frame.
+                buffer[start + 13] = 0;
+            }
+        }
+        played.instead(played.before, &buffer);
     }
 }
 

@@ -2,11 +2,12 @@
 
 use std::fmt;
 
-use crate::bus::{Bus, Injection, Node, Round, LONGEST_BUFFER};
+use crate::bus::{Bus, Injection, Round, LONGEST_BUFFER};
 use crate::codec::{self, Operation};
 use crate::counts::Counts;
 use crate::generate::CODES;
 use crate::register::closed_id;
+use crate::remote::Remote;
 use crate::session::{self, Answer, Call, Done};
 
 #[derive(Clone, Copy, Debug, PartialEq, Eq, PartialOrd, Ord)]
@@ -50,6 +51,15 @@ pub enum Outcome {
         step: Step,
         bus_off: bool,
     },
+    /// A step that was a remote frame, with data or without.
+    Remote {
+        remote: Remote,
+        bus_off: bool,
+    },
+    /// A remote frame with data whose Format Error waits in the sender's queue.
+    RemoteAnswered {
+        bus_off: bool,
+    },
     Removed(Removal),
     /// A frame with the largest ID of Ide 0, or the one above it.
     AcceptedId(u32),
@@ -77,6 +87,8 @@ pub enum Outcome {
     FullByArbitrationLost,
     LargestRoundNumberReached,
     Queued(u32),
+    /// A remote frame that was delivered.
+    QueuedRemote,
     QueuedBusError {
         detector: bool,
         sender: bool,
@@ -121,15 +133,17 @@ impl SessionTally {
     pub fn call(&mut self, before: &Bus, call: &Call, answer: &Answer, after: &Bus) {
         match (call, answer) {
             (call, &Err(number)) => self.refused(before, call, number),
-            (Call::Submit { node, buffer }, Ok(_)) => self.submitted(before, *node, buffer),
+            (Call::Submit { node, buffer }, Ok(_)) => {
+                self.submitted(before, *node, buffer, added(before, after, *node));
+            }
             (Call::Round { .. }, &Ok(Done::Round(round))) => self.round(before, round, after),
             (Call::Collect { room, .. }, Ok(Done::Collected(bytes))) => {
                 self.collected(bytes, *room);
             }
             (call, answer) => unreachable!("{answer:?} to {call:?}"),
         }
-        for (before, after) in before.nodes.iter().zip(&after.nodes) {
-            self.queued(kind(call), before, after);
+        for number in 0..before.nodes.len() {
+            self.queued(kind(call), before, after, number);
         }
     }
 
@@ -145,7 +159,8 @@ impl SessionTally {
         }
     }
 
-    fn submitted(&mut self, before: &Bus, node: usize, buffer: &[u8]) {
+    /// A buffer that was taken, and what was added to the node's queue.
+    fn submitted(&mut self, before: &Bus, node: usize, buffer: &[u8], added: &[u8]) {
         match buffer.len() {
             0 => self.rows.count(Outcome::EmptyBuffer),
             LONGEST_BUFFER => self.rows.count(Outcome::LongestBuffer),
@@ -158,11 +173,19 @@ impl SessionTally {
         let mut bus_off = node.is_bus_off();
         let (mut old, mut new, mut removed) = (node.pending.len(), 0, 0);
         let mut closings = closings(&node.queue).count();
+        let mut remotes = Vec::new();
         for (op, bytes) in codec::operations(buffer) {
             self.rows.count(Outcome::Step { step: step(op, bytes), bus_off });
+            if let Some(remote) = Remote::of(op, bytes) {
+                self.rows.count(Outcome::Remote { remote, bus_off });
+                if remote == Remote::WithData {
+                    remotes.push((bytes, bus_off));
+                }
+            }
             match op {
                 Ok(Operation::BUS_OFF) => {
                     self.went_bus_off(old, new, closings);
+                    remotes.clear();
                     removed += new;
                     (bus_off, old, new, closings) = (true, 0, 0, 0);
                 }
@@ -177,6 +200,11 @@ impl SessionTally {
                     }
                 }
                 _ => {}
+            }
+        }
+        for (bytes, bus_off) in remotes {
+            if has_format_error(added, bytes) {
+                self.rows.count(Outcome::RemoteAnswered { bus_off });
             }
         }
     }
@@ -230,18 +258,19 @@ impl SessionTally {
         }
     }
 
-    /// What a queue was given; where it was emptied first, what is in it.
-    fn queued(&mut self, call: CallKind, before: &Node, after: &Node) {
-        let kept = if after.queue.starts_with(&before.queue) { before.queue.len() } else { 0 };
-        for (op, _) in codec::operations(&after.queue[kept..]) {
+    fn queued(&mut self, call: CallKind, before: &Bus, after: &Bus, number: usize) {
+        for (op, _) in codec::operations(added(before, after, number)) {
             let op = op.expect("queues hold sound operations");
             self.rows.count(Outcome::Queued(op.code()));
+            if let Operation::CanTransmit { rtr: 1, length: 0, .. } = op {
+                self.rows.count(Outcome::QueuedRemote);
+            }
             if let Operation::BusError { error_flag, is_sender, .. } = op {
                 let detector = error_flag == codec::PRIMARY_ERROR_FLAG;
                 self.rows.count(Outcome::QueuedBusError { detector, sender: is_sender == 1 });
             }
         }
-        if after.room() == 0 && before.room() != 0 {
+        if after.nodes[number].room() == 0 && before.nodes[number].room() != 0 {
             self.rows.count(Outcome::QueueFilled(call));
         }
     }
@@ -267,12 +296,28 @@ impl fmt::Display for Outcome {
                         write!(f, "submitted: fault {number}, code of Format Error")
                     }
                 }?;
-                f.write_str(if bus_off { ", while Bus-Off" } else { "" })
+                f.write_str(while_bus_off(bus_off))
+            }
+            Outcome::Remote { remote, bus_off } => {
+                write!(f, "submitted: {}{}", remote.name(), while_bus_off(bus_off))
+            }
+            Outcome::RemoteAnswered { bus_off } => {
+                let bus_off = while_bus_off(bus_off);
+                write!(f, "queued: Format Error, remote frame with data{bus_off}")
             }
             Outcome::Queued(code) => write!(f, "queued: {}", name(code)),
+            Outcome::QueuedRemote => write!(f, "queued: remote frame"),
             Outcome::Closed(code) => write!(f, "closed in a register by {}", name(code)),
             other => write!(f, "{other:?}"),
         }
+    }
+}
+
+pub fn while_bus_off(bus_off: bool) -> &'static str {
+    if bus_off {
+        ", while Bus-Off"
+    } else {
+        ""
     }
 }
 
@@ -294,6 +339,18 @@ fn step(op: Result<Operation, u8>, bytes: &[u8]) -> Step {
 
 fn closings(bytes: &[u8]) -> impl Iterator<Item = Operation> + '_ {
     codec::operations(bytes).filter_map(|(op, _)| op.ok()).filter(|op| closed_id(op).is_some())
+}
+
+/// What the queue of a node was given; where it was emptied first, what is in it.
+fn added<'a>(before: &Bus, after: &'a Bus, number: usize) -> &'a [u8] {
+    let (old, new) = (&before.nodes[number].queue, &after.nodes[number].queue);
+    new.strip_prefix(&old[..]).unwrap_or(new)
+}
+
+/// Whether what was added to a queue has a Format Error with these bytes.
+fn has_format_error(added: &[u8], bytes: &[u8]) -> bool {
+    let wanted = Operation::FormatError { length: bytes.len() as u16 }.encode(bytes);
+    codec::operations(added).any(|(_, queued)| queued == wanted)
 }
 
 fn fits_without_losses(bus: &Bus, injection: Option<Injection>) -> bool {
@@ -328,6 +385,7 @@ fn refusal_without_bus_off(bus: &Bus, node: usize, buffer: &[u8]) -> Option<u8> 
 fn outcomes() -> Vec<Outcome> {
     use Outcome::*;
     let mut all = vec![ClosingsDropped, Aged, FullByArbitrationLost, LargestRoundNumberReached];
+    all.push(QueuedRemote);
     all.extend([EmptyBuffer, LongestBuffer, CollectedNothing, CollectedExactly]);
     all.extend([8, 9].map(BusOffMadeRoom));
     all.extend([2_047, 2_048].map(AcceptedId));
@@ -343,6 +401,8 @@ fn outcomes() -> Vec<Outcome> {
     all.extend([Removal::BusOff, Removal::BusOffWithin].map(Removed));
     for yes in [false, true] {
         all.extend(steps().map(|step| Step { step, bus_off: yes }));
+        all.extend(self::Remote::ALL.map(|remote| Remote { remote, bus_off: yes }));
+        all.push(RemoteAnswered { bus_off: yes });
         all.push(Removed(Removal::Lost { to_own_frame: yes }));
         all.push(Idle { largest_round_number: yes });
         all.push(EqualIds { same_node: yes });

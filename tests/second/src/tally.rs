@@ -7,6 +7,7 @@ use kettlefrost::raw;
 use crate::codec::{self, Operation, Rule};
 use crate::counts::Counts;
 use crate::generate::{data_start, BREAKABLE, CODES};
+use crate::remote::Remote;
 
 /// Where a reading says that the end is reached.
 #[derive(Clone, Copy, PartialEq, Eq, PartialOrd, Ord)]
@@ -32,6 +33,7 @@ pub enum Bounds {
 pub enum Mismatch {
     TooShort(u32),
     KindOutside,
+    RemoteWithData,
     Other(u32),
 }
 
@@ -62,6 +64,7 @@ pub enum Part {
 pub enum Outcome {
     End(EndAt),
     Read(u32),
+    ReadRemote,
     Fault1 { remain: usize },
     Fault2(Bounds),
     Fault3,
@@ -69,6 +72,7 @@ pub enum Outcome {
     Fault5(Breach),
     Data(Part),
     Written { code: u32, exactly: bool },
+    WrittenRemote,
     WrittenLargest,
     Refusal7(Breach),
     Refusal7Before11,
@@ -119,6 +123,9 @@ impl Tally {
             4 => Outcome::Fault4(mismatch(&buf[at..reading.next])),
             _ => Outcome::Fault5(content_breach(&buf[at..reading.next])),
         });
+        if is_remote(&reading.operation) {
+            self.count(Outcome::ReadRemote);
+        }
     }
 
     pub fn data(&mut self, buf: &[u8], op: &raw::Operation, next: usize, part: raw::Part) {
@@ -147,6 +154,9 @@ impl Tally {
                 self.count(Outcome::Written { code, exactly: written.length == room.len() });
                 if data.len() == 65_535 {
                     self.count(Outcome::WrittenLargest);
+                }
+                if is_remote(op) {
+                    self.count(Outcome::WrittenRemote);
                 }
             }
             7 => {
@@ -180,6 +190,11 @@ fn end_at(buf: &[u8], at: usize) -> EndAt {
     }
 }
 
+/// Whether an operation that was read or written is a remote frame without data.
+fn is_remote(op: &raw::Operation) -> bool {
+    matches!(Operation::try_from(op), Ok(Operation::CanTransmit { rtr: 1, length: 0, .. }))
+}
+
 /// The number at the front of `bytes`.
 fn number(bytes: &[u8]) -> u32 {
     u32::from_le_bytes(*bytes.first_chunk().expect("four bytes are there"))
@@ -204,13 +219,15 @@ fn mismatch(piece: &[u8]) -> Mismatch {
         Mismatch::TooShort(code)
     } else if code == codec::CONFIGURATION && !(1..=4).contains(&piece[8]) {
         Mismatch::KindOutside
+    } else if Remote::of(Err(4), piece) == Some(Remote::WrongLength) {
+        Mismatch::RemoteWithData
     } else {
         Mismatch::Other(code)
     }
 }
 
 fn content_breach(piece: &[u8]) -> Breach {
-    let op = codec::parse(number(piece), &piece[8..]).expect("faults 3 and 4 come first");
+    let op = codec::parsed(piece).expect("faults 3 and 4 come first");
     only_one(broken_rules(&op))
 }
 
@@ -245,6 +262,7 @@ fn only_one(breaches: Vec<Breach>) -> Breach {
 fn outcomes() -> Vec<Outcome> {
     use {Bounds::*, EndAt::*, Outcome::*};
     let mut all = vec![Fault3, WrittenLargest, Refusal7Before11, Walked];
+    all.extend([ReadRemote, WrittenRemote, Fault4(Mismatch::RemoteWithData)]);
     all.extend([EmptyBuffer, Length, OnePast, FurtherPast, LargestPosition].map(End));
     all.extend((1..=7).map(|remain| Fault1 { remain }));
     all.extend([BelowSeven, Seven, OneBeyond, FurtherBeyond].map(Fault2));
@@ -290,6 +308,7 @@ impl fmt::Display for Rule {
             Rule::ExtendedId => "ID with Ide 1",
             Rule::Id => "ID",
             Rule::DataLength => "DL",
+            Rule::RemoteData => "remote frame with data",
             Rule::Kind => "kind",
             Rule::BaudRate => "baud rate",
             Rule::Behaviour => "behaviour",
@@ -323,6 +342,7 @@ impl fmt::Display for Outcome {
                 EndAt::LargestPosition => "end, largest position",
             }),
             Outcome::Read(code) => write!(f, "read, {}", kind(code)),
+            Outcome::ReadRemote => write!(f, "read, remote frame"),
             Outcome::Fault1 { remain } => write!(f, "fault 1, {remain} remain"),
             Outcome::Fault2(bounds) => f.write_str(match bounds {
                 Bounds::BelowSeven => "fault 2, length 0 to 6",
@@ -336,6 +356,9 @@ impl fmt::Display for Outcome {
             }
             Outcome::Fault4(Mismatch::KindOutside) => {
                 write!(f, "fault 4, Configuration: kind outside 1 to 4")
+            }
+            Outcome::Fault4(Mismatch::RemoteWithData) => {
+                write!(f, "fault 4, CAN Transmit: remote frame with data")
             }
             Outcome::Fault4(Mismatch::Other(code)) => {
                 write!(f, "fault 4, {}: other length", kind(code))
@@ -356,6 +379,7 @@ impl fmt::Display for Outcome {
             Outcome::Written { code, exactly: false } => {
                 write!(f, "written, {}, room left", kind(code))
             }
+            Outcome::WrittenRemote => write!(f, "written, remote frame"),
             Outcome::WrittenLargest => write!(f, "written, data of 65,535 bytes"),
             Outcome::Refusal7(breach) => write!(f, "refusal 7, {breach}"),
             Outcome::Refusal7Before11 => write!(f, "refusal 7 where 11 applies too"),

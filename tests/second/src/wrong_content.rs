@@ -1,14 +1,16 @@
 //! Wrong content rules (01: operations as bytes), each off by one value of one
-//! field. They are planted wherever content rules are asked: in reading, in
-//! writing, in what is submitted, in pending frames and in registers.
+//! field, and those of remote frames (02, Wish 7). They are planted wherever
+//! content rules are asked: in reading, in writing, in what is submitted, in
+//! pending frames and in registers.
 
-use crate::codec::{self, Operation, LARGEST_ID, LARGEST_STANDARD_ID};
+use crate::codec::{self, Operation, Rule, LARGEST_ID, LARGEST_STANDARD_ID};
 
+use codec::Rule::RemoteData;
 use codec::{ARBITRATION_LOST as LOST, BUS_ERROR, CONFIGURATION, CONFIRM, STATUS};
 use codec::{CAN_TRANSMIT as CAN, FD_TRANSMIT as FD, XL_TRANSMIT as XL};
 use Operation::{ArbitrationLost, BusError, CanTransmit, Configuration, Confirm, Status};
 use Operation::{FdTransmit, XlTransmit};
-use Wrong::{Passes, Refused};
+use Wrong::{Instead, Passes, Refused};
 
 type Is = fn(&Operation) -> bool;
 
@@ -18,6 +20,8 @@ pub enum Wrong {
     Passes(Is),
     /// Such an operation is not taken for sound.
     Refused(Is),
+    /// In place of a rule it is asked whether the operation is such a one.
+    Instead(Rule, Is),
 }
 
 /// The wrong rules by the code of their kind and by name.
@@ -27,7 +31,6 @@ const WRONG_CONTENT: &[(u32, &str, Wrong)] = &[
     (CAN, "Ide 2 passes", Passes(|op| matches!(op, CanTransmit { ide: 2, .. }))),
     (CAN, "Ide 1 is refused", Refused(|op| matches!(op, CanTransmit { ide: 1, .. }))),
     (CAN, "Rtr 2 passes", Passes(|op| matches!(op, CanTransmit { rtr: 2, .. }))),
-    (CAN, "Rtr 1 is refused", Refused(|op| matches!(op, CanTransmit { rtr: 1, .. }))),
     (FD, "Ide 2 passes", Passes(|op| matches!(op, FdTransmit { ide: 2, .. }))),
     (FD, "Ide 1 is refused", Refused(|op| matches!(op, FdTransmit { ide: 1, .. }))),
     (FD, "Brs 2 passes", Passes(|op| matches!(op, FdTransmit { brs: 2, .. }))),
@@ -94,6 +97,15 @@ const WRONG_CONTENT: &[(u32, &str, Wrong)] = &[
     (XL, "DL 1 is refused", Refused(|op| op.data_length() == 1)),
     (XL, "DL 2,048 is refused", Refused(|op| op.data_length() == 2_048)),
     (XL, "DL 2,049 passes", Passes(|op| op.data_length() == 2_049)),
+    // 02: "Reading and writing now treat Rtr 1 with DL above 0 as a broken content rule"
+    (CAN, "the rule of remote frames is left out", Instead(RemoteData, |_| true)),
+    (CAN, "the rule of remote frames asks Rtr 0", Instead(RemoteData, |op| !is_can(op, 0, 1))),
+    (CAN, "a remote frame is refused with DL 8 only", Instead(RemoteData, |op| !is_can(op, 1, 8))),
+    (CAN, "a remote frame is refused from DL 2 on", Instead(RemoteData, |op| !is_can(op, 1, 2))),
+    (CAN, "a remote frame is refused with DL 0 too", Instead(RemoteData, |op| !is_can(op, 1, 0))),
+    (CAN, "a remote frame with data passes with Ide 0", Passes(|op| is_remote_with_data(op, 0))),
+    (CAN, "a remote frame with data passes with Ide 1", Passes(|op| is_remote_with_data(op, 1))),
+    (FD, "Brs 1 is refused with DL above 0", Refused(|op| has_brs(op) && op.data_length() > 0)),
     // "A baud rate is not 0."
     (CONFIGURATION, "CAN baud rate 0 passes", Passes(|op| is_configuration(op, 1, 0))),
     (CONFIGURATION, "CAN baud rate 1 is refused", Refused(|op| is_configuration(op, 1, 1))),
@@ -154,6 +166,7 @@ impl WrongRule {
             _ if op.code() != self.code => broken == 0,
             Passes(is) => broken == 0 || broken == 1 && is(op),
             Refused(is) => broken == 0 && !is(op),
+            Instead(rule, is) => (broken == 0 || op.breaks_only(rule)) && is(op),
         }
     }
 
@@ -167,7 +180,7 @@ impl WrongRule {
             match op {
                 Ok(op) if !self.is_sound(&op) => out[start + 1] = 0xFF,
                 Err(5) => {
-                    let op = parsed(bytes).expect("faults 3 and 4 come first");
+                    let op = codec::parsed(bytes).expect("faults 3 and 4 come first");
                     if self.is_sound(&op) {
                         out.truncate(start);
                         out.extend(mended_bytes(&op, bytes));
@@ -178,12 +191,6 @@ impl WrongRule {
         }
         out
     }
-}
-
-/// The operation of these bytes, the content rules unasked.
-pub fn parsed(bytes: &[u8]) -> Option<Operation> {
-    let code = u32::from_le_bytes(*bytes.first_chunk()?);
-    codec::parse(code, bytes.get(8..)?).ok()
 }
 
 fn mended_bytes(op: &Operation, bytes: &[u8]) -> Vec<u8> {
@@ -198,7 +205,9 @@ pub fn mended(op: &Operation) -> Operation {
     match *op {
         CanTransmit { id, ide, rtr, length } => {
             let (id, ide) = mended_id(id, ide);
-            CanTransmit { id, ide, rtr: rtr.min(1), length: length.min(8) }
+            let (rtr, length) = (rtr.min(1), length.min(8));
+            let rtr = if codec::rtr_allows(rtr, length) { rtr } else { 0 };
+            CanTransmit { id, ide, rtr, length }
         }
         FdTransmit { id, ide, brs, esi, length } => {
             let (id, ide) = mended_id(id, ide);
@@ -236,6 +245,19 @@ fn is_transmit(op: &Operation, wanted_ide: u8, wanted_id: u32) -> bool {
         }
         _ => false,
     }
+}
+
+/// Whether this is a CAN Transmit with this Rtr, and a DL from `least` on.
+fn is_can(op: &Operation, wanted: u8, least: u16) -> bool {
+    matches!(*op, CanTransmit { rtr, length, .. } if rtr == wanted && length >= least)
+}
+
+fn is_remote_with_data(op: &Operation, wanted_ide: u8) -> bool {
+    is_can(op, 1, 1) && matches!(*op, CanTransmit { ide, .. } if ide == wanted_ide)
+}
+
+fn has_brs(op: &Operation) -> bool {
+    matches!(op, FdTransmit { brs: 1, .. })
 }
 
 fn is_bus_error(op: &Operation, wanted: u32) -> bool {

@@ -177,6 +177,47 @@ fn refusals_come_by_number() {
     assert_eq!(lent::start(&mut bus.slots, &bus.payload, &bus.queues, 9), Err(1));
 }
 
+/// The slots are asked in another way than operations are.
+#[test]
+fn a_pending_frame_is_valid_exactly_if_its_operation_is_sound() {
+    let mut bus = Lent::start(2);
+    bus.state.nodes[1].pending = 1;
+    for flags in 0..27 {
+        let [ide, second, third] = [flags % 3, flags / 3 % 3, flags / 9];
+        for length in (0..70).chain([2_048, 2_049]) {
+            for id in [0, 2_047, 2_048, 536_870_911, 536_870_912] {
+                let (brs, esi, sec, sdt) = (second, third, second, third);
+                let frames = [
+                    Operation::CanTransmit { id, ide, rtr: second, length },
+                    Operation::FdTransmit { id, ide, brs, esi, length },
+                    Operation::XlTransmit { id, ide, sec, sdt, vcid: 9, af: 9, length },
+                ];
+                for op in frames {
+                    bus.slots[4] = lent::slot_of(&op, 1, 0);
+                    let number = if op.is_sound() { 4 } else { 3 };
+                    assert_eq!(bus.submit(2, &[]), Err(number), "{op:?}");
+                }
+            }
+        }
+    }
+}
+
+#[test]
+fn a_state_that_holds_a_remote_frame_with_data_is_not_valid() {
+    let remote = |length| Operation::CanTransmit { id: 1, ide: 0, rtr: 1, length };
+    let mut bus = Lent::start(2);
+    assert_eq!(bus.submit(1, &remote(0).encode(&[])), Ok(()));
+    for length in 1..=8 {
+        bus.slots[4] = lent::slot_of(&remote(length), 1, 0);
+        assert_eq!(bus.submit(0, &[]), Err(3));
+        assert_eq!(bus.round(None), Err(3));
+        let Lent { state, slots, payload, queues } = &mut bus;
+        assert_eq!(lent::collect(state, slots, payload, queues, 0, &mut []), Err(3));
+    }
+    bus.slots[4] = lent::slot_of(&remote(0), 1, 0);
+    assert_eq!(bus.round(None), delivered(1, 1, 0));
+}
+
 #[test]
 fn random_sessions_beside_the_plain_bus() {
     let sides: Vec<(_, Box<dyn Calls>)> = vec![("second bus", Box::new(Second))];

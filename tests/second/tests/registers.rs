@@ -101,6 +101,6 @@ fn drawn_calls_come_to_every_outcome() {
 fn wrong_registers_are_found() {
     for (name, plant) in plants() {
         let mut comparison = RegisterComparison::new(Box::new(plant));
-        assert!(comparison.run(2_003, 40_000).is_err(), "not found: {name}");
+        assert!(comparison.run(2_003, 100_000).is_err(), "not found: {name}");
     }
 }

@@ -5,6 +5,7 @@ use crate::bus::{LONGEST_BUFFER, PENDING_CAPACITY, QUEUE_CAPACITY};
 use crate::codec::{self, Operation};
 use crate::lent::{self, NodeState, Slot, SLOT_BYTES};
 use crate::memory::{Call, Calls, Second};
+use crate::remote::Remote;
 use crate::wrong_content::WrongRule;
 
 /// An operation of a submitted buffer, or a fault.
@@ -409,6 +410,57 @@ pub fn format_error_to_next(p: &mut Played) {
     for step in steps.iter().filter(|step| step.is_answered()) {
         let op = Operation::FormatError { length: step.bytes.len() as u16 };
         p.append(next(p, node), &op, step.bytes);
+    }
+}
+
+// Remote frames with data.
+
+pub fn is_remote(step: &Step) -> bool {
+    Remote::of(step.op, step.bytes) == Some(Remote::WithData)
+}
+
+pub fn is_bus_off_remote(step: &Step) -> bool {
+    step.bus_off && is_remote(step)
+}
+
+/// The frame alone is taken, and its data are passed over.
+pub fn strip_remote(p: &mut Played) {
+    p.rewrite(|step| {
+        let mut bytes = step.bytes.to_vec();
+        if is_remote(step) {
+            bytes.truncate(16);
+            (bytes[4], bytes[14]) = (16, 0);
+        }
+        bytes
+    });
+}
+
+/// The Format Error has the frame alone, without its data.
+pub fn answer_remote_in_part(p: &mut Played) {
+    p.rewrite(|step| {
+        let mut bytes = step.bytes.to_vec();
+        if is_remote(step) {
+            bytes.truncate(16);
+            bytes[4] = 16;
+        }
+        bytes
+    });
+}
+
+/// For some steps the queue is not asked for room.
+pub fn no_room_asked(p: &mut Played, is: fn(&Step) -> bool) {
+    let Some((_, steps)) = p.steps() else { return };
+    if p.answer.number == 9 && p.number_of(steps.iter().filter(|step| !is(step))) == 0 {
+        p.answer.number = 0;
+    }
+}
+
+/// A node with four frames pending has no place for it.
+pub fn count_remote(p: &mut Played) {
+    let Some((node, steps)) = p.taken() else { return };
+    let full = usize::from(p.before.state.nodes[node].pending) == PENDING_CAPACITY;
+    if full && steps.first().is_some_and(is_remote) {
+        p.refuse(8);
     }
 }
 

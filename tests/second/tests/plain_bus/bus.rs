@@ -89,6 +89,7 @@ fn w8_identifiers_pass_or_are_answered() {
     }
 }
 
+/// W9 means Rtr 0 (02, Wish 7).
 #[test]
 fn w9_data_lengths_pass_or_are_answered() {
     let can = |length| can_with(1, 0, &vec![0; length]);
@@ -292,6 +293,46 @@ fn faults_3_to_5_are_answered_and_reading_goes_on() {
 }
 
 #[test]
+fn remote_frame_with_data_is_answered_and_one_without_is_pending() {
+    for length in 1..=8 {
+        let remote = remote(1, &vec![7; length]);
+        let bus = bus_with(&[[remote.clone(), self::remote(2, &[])].concat(), vec![]]);
+        assert_eq!((pending(&bus, 0), queue(&bus, 0)), (vec![2], &format_error(&remote)[..]));
+        assert_eq!(queue(&bus, 1), []);
+    }
+}
+
+#[test]
+fn remote_frame_with_data_is_no_fifth_frame() {
+    let mut bus = bus_with(&[vec![can(1); 4].concat(), vec![]]);
+    submit(&mut bus, 0, &remote(2, &[1]));
+    assert_eq!(queue(&bus, 0), format_error(&remote(2, &[1])));
+    refused_submit(&mut bus, 8, 0, &remote(2, &[]));
+}
+
+#[test]
+fn remote_frame_with_data_of_a_bus_off_node_is_answered() {
+    let mut bus = bus_with(&[[bus_off(), remote(1, &[]), remote(2, &[1])].concat(), vec![]]);
+    assert_eq!((pending(&bus, 0), queue(&bus, 0)), (vec![], &format_error(&remote(2, &[1]))[..]));
+    submit(&mut bus, 0, &[bus_off(), can(1), can_with(1, 0, &[1]), remote(1, &[])].concat());
+    assert_eq!(queue(&bus, 0), []);
+}
+
+#[test]
+fn remote_frame_with_data_into_a_full_queue_is_9() {
+    let data = [1, 2, 3, 4, 5, 6, 7, 8];
+    for status in [active(), status(2), bus_off()] {
+        let mut bus = bus_with(&[status, vec![]]);
+        fill(&mut bus, 0, 33);
+        refused_submit(&mut bus, 9, 0, &remote(1, &data));
+        refused_submit(&mut bus, 9, 0, &[remote(1, &data), bus_off()].concat());
+        submit(&mut bus, 0, &remote(1, &data[1..]));
+        assert_eq!(bus.nodes[0].room(), 0);
+        submit(&mut bus, 0, &remote(1, &[]));
+    }
+}
+
+#[test]
 fn longest_buffer_answered_fills_an_empty_queue() {
     let mut bus = bus_with(&[fault(LONGEST_BUFFER), vec![]]);
     assert_eq!(queue(&bus, 0).len(), QUEUE_CAPACITY);
@@ -348,9 +389,10 @@ fn order_is_by_id_then_node_then_acceptance() {
 
 #[test]
 fn order_ignores_ide_rtr_and_kind() {
-    let frames = [xl(15, 1), can_with(15, 1, &[]), can_with(15, 0, &[]), fd(15, 0)];
+    let remote = remote(15, &[]);
+    let frames = [xl(15, 1), can_with(15, 1, &[]), remote, can_with(15, 0, &[]), fd(15, 0)];
     let mut bus = bus_with(&frames);
-    for sender in 0..4 {
+    for sender in 0..5 {
         assert_eq!(bus.round(None), delivered(sender, 15, sender as u32));
     }
 }
@@ -368,7 +410,8 @@ fn order_can_be_exchanged() {
 #[test]
 fn every_kind_is_delivered_byte_for_byte() {
     let data = [9, 8, 7, 6, 5, 4, 3, 2];
-    for frame in [can_with(536_870_911, 1, &data), fd(5, 64), xl(2_048, 2_048)] {
+    let can = can_with(536_870_911, 1, &data);
+    for frame in [can, remote(2_047, &[]), fd(5, 64), xl(2_048, 2_048)] {
         let mut bus = bus_with(&[vec![], frame.clone(), vec![]]);
         assert!(matches!(bus.round(None), Ok(Round::Carried { sender: 1, age: 0, .. })));
         assert_eq!((queue(&bus, 0), queue(&bus, 2)), (&frame[..], &frame[..]));

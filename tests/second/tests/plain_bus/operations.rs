@@ -17,6 +17,11 @@ pub fn can_with(id: u32, ide: u8, data: &[u8]) -> Vec<u8> {
     Operation::CanTransmit { id, ide, rtr: 0, length: data.len() as u16 }.encode(data)
 }
 
+/// A remote frame, with data or without.
+pub fn remote(id: u32, data: &[u8]) -> Vec<u8> {
+    Operation::CanTransmit { id, ide: 0, rtr: 1, length: data.len() as u16 }.encode(data)
+}
+
 pub fn fd(id: u32, length: u16) -> Vec<u8> {
     let op = Operation::FdTransmit { id, ide: 0, brs: 1, esi: 0, length };
     op.encode(&vec![0xFD; length.into()])

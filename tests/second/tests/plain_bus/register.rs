@@ -41,6 +41,18 @@ fn entering_adds_each_sound_transmit_at_the_end() {
 }
 
 #[test]
+fn remote_frame_with_data_is_not_entered() {
+    let buffer = [remote(8, &[]), remote(9, &[1]), remote(9, &[1; 8])].concat();
+    let mut register = register(&[7]);
+    assert_eq!(register.enter(&buffer), Ok(()));
+    assert_eq!(register, self::register(&[7, 8]));
+    let mut full = self::register(&[1; REGISTER_CAPACITY]);
+    assert_eq!(full.enter(&remote(9, &[1])), Ok(()));
+    assert_eq!(full, self::register(&[1; REGISTER_CAPACITY]));
+    refused(&mut full, 12, Register::enter, &remote(9, &[]));
+}
+
+#[test]
 fn entering_knows_no_limit_of_length_and_none_of_pending_frames() {
     let mut register = Register::new();
     let long = [frames(1, 5), format_error(&[0; 60_000]), can(2)].concat();

@@ -144,6 +144,17 @@ fn forged_closings_close_nothing() {
 }
 
 #[test]
+fn remote_frame_with_data_is_answered_and_not_open() {
+    for status in [active(), bus_off()] {
+        let mut session = start(2);
+        assert!(submit(&mut session, 0, [status, remote(1, &[1, 2])].concat()).is_ok());
+        assert_eq!(open(&session, 0), []);
+        assert_eq!(collect(&mut session, 0), format_error(&remote(1, &[1, 2])));
+        assert_eq!(round(&mut session, None), Ok(Done::Round(Round::Idle)));
+    }
+}
+
+#[test]
 fn refused_submit_is_not_entered() {
     let mut session = start(2);
     assert!(submit(&mut session, 1, fault(4_086)).is_ok());
