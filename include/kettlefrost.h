@@ -162,7 +162,8 @@ enum {
  *
  * Content rules: Ide, Rtr, Brs, Esi, Sec and Is Sender are 0 or 1. An ID is at most KF_MAX_ID, and in a Transmit with
  * Ide 0 at most KF_MAX_STANDARD_ID. DL is 0 to 8 for CAN; 0 to 8, 12, 16, 20, 24, 32, 48 or 64 for CAN FD; 1 to 2048
- * for CAN XL. A baud rate is not 0. Error Code, Error Flag, kind, behavior and status are of the tables above.
+ * for CAN XL. A remote frame (Rtr 1) has no data field: its DL is 0. A baud rate is not 0. Error Code, Error Flag, kind,
+ * behavior and status are of the tables above.
  */
 typedef struct kf_operation {
     uint32_t code;

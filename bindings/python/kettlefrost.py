@@ -554,7 +554,8 @@ class FormatError(Operation):
 
 @dataclasses.dataclass(frozen=True)
 class CanTransmit(Operation):
-    """A CAN frame. The ID has 11 bits if ``ide`` is 0 and 29 if it is 1; data are 0 to 8 bytes."""
+    """A CAN frame. The ID has 11 bits if ``ide`` is 0 and 29 if it is 1; data are 0 to 8 bytes, and
+    none in a remote frame (``rtr`` 1)."""
 
     code = Code.CAN_TRANSMIT
     id: int = _at("id")

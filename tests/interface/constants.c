@@ -229,6 +229,31 @@ static void faults(void) {
     EXPECT(kf_read(buffer, length, 0).fault == KF_FAULT_RULE_BROKEN);
 }
 
+/* A remote frame has DL 0: with data it is neither written nor read, is answered when submitted, by a Bus-Off node too,
+   and is not valid in a state. */
+static void remote_frames(void) {
+    for (uint16_t length = 0; length <= 8; length++) {
+        kf_operation op = transmit(15);
+        op.second = 1;
+        op.length = length;
+        EXPECT(written(op) == (length == 0 ? KF_DONE : KF_RULE_BROKEN));
+        size_t size = put_operation(buffer, op, data);
+        EXPECT(kf_read(buffer, size, 0).fault == (length == 0 ? 0 : KF_FAULT_RULE_BROKEN));
+        put_number(buffer, 4, 4, (uint32_t)size + 1);
+        EXPECT(kf_read(buffer, size + 1, 0).fault == KF_FAULT_LENGTH_NOT_OF_KIND);
+
+        kf_state state = submitted(submitted(started(2), 0, op), 1, status(KF_BUS_OFF));
+        EXPECT(state.nodes[0].pending == (length == 0) && state.nodes[0].fill == (length == 0 ? 0 : 10 + size));
+        state = submitted(state, 1, op);
+        EXPECT(state.nodes[1].pending == 0 && state.nodes[1].fill == (length == 0 ? 0 : 10 + size));
+
+        state = submitted(started(2), 0, transmit(15));
+        slots[0].second = 1;
+        slots[0].length = length;
+        EXPECT(play(state).number == (length == 0 ? KF_DONE : KF_INVALID));
+    }
+}
+
 /* Of the values 0 to 255 of a field, those from first to last are written. */
 #define EXPECT_TABLE(op, field, first, last)                                                                           \
     for (int value = 0; value <= 255; value++) {                                                                       \
@@ -337,6 +362,7 @@ int main(void) {
     test("largest register", largest_register);
     test("codes", codes);
     test("faults", faults);
+    test("remote frames", remote_frames);
     test("tables", tables);
     test("error codes", error_codes);
     test("detectors", detectors);

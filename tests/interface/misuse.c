@@ -68,6 +68,7 @@ static int legal_length(uint8_t kind, uint16_t length) {
 static int legal_frame(kf_slot s) {
     if (s.kind < 0x10 || s.kind > 0x12) return 0;
     if (s.first > 1 || s.second > 1 || (s.kind == 0x11 && s.third > 1)) return 0;
+    if (s.kind == 0x10 && s.second == 1 && s.length > 0) return 0;
     return s.id <= (s.first == 0 ? 2047u : 536870911u) && legal_length(s.kind, s.length);
 }
 

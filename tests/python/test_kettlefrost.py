@@ -286,6 +286,21 @@ class Refusals(Case):
                           BusError(1, 7, 1, 0), BusError(1, 1, 3, 0), Confirm(kf.MAX_ID + 1)):
             self.assert_refused(7, operation.encode)
 
+    def test_7_remote_frame_with_data(self):
+        for length in (1, 8):
+            self.assert_refused(7, CanTransmit(5, rtr=1, data=bytes(length)).encode)
+        remote = CanTransmit(5, rtr=1)
+        self.assertEqual([op for _, op, _ in kf.operations(remote.encode())], [remote])
+
+    def test_remote_frame_with_data_is_answered(self):
+        with_data = bytes.fromhex("10000000 11000000 05000000 0001 0100 AA")
+        bus = Bus(2)
+        bus.submit(0, with_data)
+        bus.submit(1, BUS_OFF + with_data)
+        for node in (0, 1):
+            self.assertEqual(bus.node(node).pending, 0)
+            self.assertEqual(bus.collect(node), FormatError(with_data).encode())
+
     def test_7_length_not_that_of_the_data(self):
         room = (ctypes.c_char * 64)()
         record = kf.kf_operation(code=kf.Code.CAN_TRANSMIT, id=15, length=3)

@@ -20,6 +20,12 @@ const MAX_HEADER: usize = 22;
 /// // An ID of more than 11 bits needs Ide.
 /// let frame = Operation::CanTransmit { id: 2_048, ide: false, rtr: false, data: &[] };
 /// assert_eq!(frame.encode(), Err(Refusal::RuleBroken));
+///
+/// // A remote frame has no data field.
+/// let request = Operation::CanTransmit { id: 15, ide: false, rtr: true, data: &[] };
+/// assert_eq!(operations(&request.encode()?).next(), Some(Ok(request)));
+/// let frame = Operation::CanTransmit { id: 15, ide: false, rtr: true, data: &[0xAA] };
+/// assert_eq!(frame.encode(), Err(Refusal::RuleBroken));
 /// # Ok::<(), Refusal>(())
 /// ```
 #[derive(Clone, Copy, Debug, PartialEq, Eq)]
@@ -38,7 +44,7 @@ pub enum Operation<'a> {
         ide: bool,
         /// Whether it is a remote frame.
         rtr: bool,
-        /// Up to 8 bytes.
+        /// Up to 8 bytes; none in a remote frame.
         data: &'a [u8],
     },
     /// A CAN FD frame.

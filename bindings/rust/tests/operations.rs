@@ -4,7 +4,7 @@ use kettlefrost::{operations, Fault, Faulty, Operation, Refusal, MAX_ID, MAX_STA
 
 /// Each kind with its bytes, no two fields of one kind alike where they can differ.
 fn kinds() -> [(Operation<'static>, Vec<u8>); 13] {
-    let can = |ide, rtr| Operation::CanTransmit { id: 0x123, ide, rtr, data: &[7] };
+    let can = |ide, rtr, data| Operation::CanTransmit { id: 0x123, ide, rtr, data };
     let fd = |ide, brs, esi| {
         let (id, data) = (0x0708_090A, &[5; 12]);
         Operation::CanFdTransmit { id: if ide { id } else { 10 }, ide, brs, esi, data }
@@ -22,8 +22,8 @@ fn kinds() -> [(Operation<'static>, Vec<u8>); 13] {
         |is_sender| Operation::BusError { id: 5, error_code: 6, error_flag: 2, is_sender };
     [
         (Operation::FormatError { data: &[1, 2, 3] }, bytes(1, &[3, 0, 1, 2, 3])),
-        (can(false, true), bytes(0x10, &[0x23, 1, 0, 0, 0, 1, 1, 0, 7])),
-        (can(true, false), bytes(0x10, &[0x23, 1, 0, 0, 1, 0, 1, 0, 7])),
+        (can(false, true, &[]), bytes(0x10, &[0x23, 1, 0, 0, 0, 1, 0, 0])),
+        (can(true, false, &[7]), bytes(0x10, &[0x23, 1, 0, 0, 1, 0, 1, 0, 7])),
         (fd(true, true, false), with_data(0x11, &[0x0A, 9, 8, 7, 1, 1, 0, 12, 0], &[5; 12])),
         (fd(false, false, true), with_data(0x11, &[10, 0, 0, 0, 0, 0, 1, 12, 0], &[5; 12])),
         (xl, bytes(0x12, &[2, 1, 0, 0, 0, 1, 3, 4, 8, 7, 6, 5, 2, 0, 9, 10])),

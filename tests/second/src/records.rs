@@ -50,6 +50,8 @@ pub struct UnknownCode;
 impl TryFrom<&raw::Operation> for Operation {
     type Error = UnknownCode;
 
+    // By order, as readers and writers are: the benchmark calls it in more than one loop.
+    #[inline(always)]
     fn try_from(record: &raw::Operation) -> Result<Operation, UnknownCode> {
         let raw::Operation { code, id, word, length, first, second, third, fourth } = *record;
         Ok(match code {

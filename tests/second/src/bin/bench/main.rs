@@ -110,7 +110,7 @@ fn write_by_call(op: &Operation, data: &[u8], buf: &mut [u8]) -> Result<usize, u
 }
 
 /// A sum of the fields that the kind has.
-#[inline]
+#[inline(always)]
 fn sum(op: &Operation) -> u64 {
     let add = |words: [u32; 3], bytes: [u8; 4]| {
         words.map(u64::from).iter().sum::<u64>() + bytes.map(u64::from).iter().sum::<u64>()
@@ -138,7 +138,6 @@ fn sum(op: &Operation) -> u64 {
 
 /// Reads a whole stream with the library. The flat answer is taken apart by its
 /// code, as the other side's is by its case.
-#[inline(always)]
 fn decode_library(buf: &[u8], read: impl Fn(&[u8], usize) -> raw::Reading) -> u64 {
     let (mut at, mut total) = (0, 0);
     loop {
@@ -161,7 +160,6 @@ fn decode_second(buf: &[u8], read: impl Fn(&[u8], usize) -> Reading) -> u64 {
     total
 }
 
-#[inline(always)]
 fn encode_library(
     stream: &Stream,
     out: &mut [u8],
