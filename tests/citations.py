@@ -12,6 +12,8 @@ import pathlib
 import re
 import sys
 
+from sources import DECLARED, bare, signed
+
 ROOT = pathlib.Path(__file__).resolve().parent.parent
 CRATES = sorted(path.name for path in (ROOT / "crates").iterdir())
 DOCUMENTS = sorted([*ROOT.glob("*.md"), *(ROOT / "docs").rglob("*.md")])
@@ -22,9 +24,6 @@ LINK = re.compile(r"\]\(([^)#:]+)(?:#[^)]*)?\)")
 CODE = re.compile(r"`([^`]+)`")
 NAME = re.compile(r"[^\W\d][\w′-]*(?:(?:\.|::)[\w′-]+)*")
 WORDS = {"ensures", "requires", "specs", "proofs", "src", "Meets", "os", "close"}  # of Rattle
-COMMENT = re.compile(r"(?:--|//) .*")
-SIGNED = re.compile(r"^\s*(?:pub |abbrev |unfoldable )*((?:[^\s:(){}=→]+ )+): ", re.M)
-DECLARED = re.compile(r"\b(?:record|data|fn|struct|enum|const|mod) ([^\s(:;{<]+)")
 MEMBER = re.compile(r"^\s+(?:pub )?(\w+)(?=:|[,({ ]|$)", re.M)
 BLOCK = re.compile(r"^(?:pub )?(?:record|data|struct|enum) ([^\s({]+).*\n((?:[ \t]+.*\n)+)", re.M)
 
@@ -39,14 +38,10 @@ def files_of(cited):
     return [path for path in paths if path.exists()]
 
 
-def signed(text):
-    return {name for names in SIGNED.findall(text) for name in names.split()}
-
-
 @functools.lru_cache(maxsize=None)
 def defined(path):
     """The names that a file defines."""
-    text = COMMENT.sub("", path.read_text(encoding="utf-8"))
+    text = bare(path.read_text(encoding="utf-8"), path.suffix)
     names = signed(text).union(DECLARED.findall(text))
     for block in BLOCK.finditer(text):
         members = signed(block[2]) if path.suffix == ".antt" else MEMBER.findall(block[2])
