@@ -1,8 +1,6 @@
 //! Two builds of the library in one run, each loaded from its shared library, so
 //! that both are called in the same way.
 
-#![allow(improper_ctypes_definitions)]
-
 use std::ffi::{c_char, c_int, c_void, CStr, CString};
 use std::fs;
 use std::mem::transmute_copy;
