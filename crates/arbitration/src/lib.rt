@@ -1,5 +1,7 @@
 // One round on a valid state, given its winner: every queue is tested for what its node is owed, and only then bytes are written.
 // This is for the bus crate above: what is required its caller must meet.
+#![tactic(auto)]
+
 ghost use Rattle.std.specs.Prelude.{◌≡◌, true, List, [], ◌+◌, ◌-◌, ◌*◌, ◌≤◌, ◌<◌, length};
 ghost use Rattle.operation.specs.Format.{data_length, length_of, encode};
 ghost use Rattle.operation.specs.Rules.{legal, max_extended_id};
@@ -26,7 +28,7 @@ use scan::Winner;
 use slots::Slot;
 
 // An error injected into a round: its code, and the number of the node that detects it.
-#[derive(Drop)]
+#[derive(Clone, Copy)]
 pub enum Injection {
     NoError,
     Injected { code: u32, detector: u32 },

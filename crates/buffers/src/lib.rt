@@ -1,4 +1,6 @@
 // Bytes laid over a buffer from a position on. These are for the crates above only: each has a requires that its caller must meet.
+#![tactic(auto)]
+
 ghost use Rattle.std.specs.Prelude.{◌≡◌, [], ◌∷◌, ◌+◌, ◌≤◌, length};
 ghost use Rattle.operation.specs.Number.{little_endian};
 ghost use Rattle.buffers.specs.Parts.{part, over};

@@ -1,6 +1,8 @@
 // The calls of the bus with what the pass over the slots gave in their place: the refusals 1 and 3 in front, then what the call does.
 // The public calls go over the lent slots, call these, and put back the slots that changed. That the key is that of some slots they must
 // meet; what is promised holds for all slots that have it.
+#![tactic(auto)]
+
 ghost use Rattle.std.specs.Prelude.{◌≡◌, List, ◌+◌, ◌≤◌, length};
 ghost use Rattle.slots.specs.Blocks.{block_at};
 ghost use Rattle.slots.specs.declared.Slot.{Slot};
@@ -37,7 +39,7 @@ const START_FD_RATE: u32 = 2_000_000;
 const START_XL_RATE: u32 = 10_000_000;
 
 // The outcome of a start, with the state and all slots after it.
-#[derive(Drop)]
+#[derive(Clone, Copy)]
 pub struct Started {
     pub outcome: Outcome,
     pub state: State,
@@ -45,7 +47,7 @@ pub struct Started {
 }
 
 // What the tests for 1 and 3 come to.
-#[derive(Drop)]
+#[derive(Clone, Copy)]
 pub enum Test {
     Refused(Outcome),
     Passed,

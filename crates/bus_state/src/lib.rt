@@ -1,4 +1,6 @@
 // The state of the bus, which goes in and comes back by value, beside the lent memory: slots, payload bytes, queue bytes.
+#![tactic(auto)]
+
 ghost use Rattle.std.specs.Prelude.{◌≡◌, ◌<◌, set};
 ghost use Rattle.bus_state.specs.Memory.{node_state, is_off};
 ghost use Rattle.bus_state.specs.Entries.{with_entry, entry_status, entry_behaviour, entry_rates, entry_fill, entry_pending};
@@ -10,7 +12,7 @@ use slots::Slot;
 // What is held of one node besides its frames and its queue's bytes: its pending frames are slots 4j to 4j + pending - 1 of node j,
 // oldest first, and its queue the first fill bytes from 4,096 j on.
 #[repr(C)]
-#[derive(Drop)]
+#[derive(Clone, Copy)]
 pub struct NodeState {
     pub rates: [u32; 3],
     pub fill: u16,
@@ -20,7 +22,7 @@ pub struct NodeState {
 }
 
 #[repr(C)]
-#[derive(Drop)]
+#[derive(Clone, Copy)]
 pub struct State {
     pub count: u32,
     pub round: u32,

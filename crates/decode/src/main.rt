@@ -1,4 +1,6 @@
 // Prints the operations of a collected stream, one a line. `decode FILE` takes a file of at most 65,536 bytes.
+#![tactic(auto)]
+
 mod names;
 mod report;
 

@@ -1,4 +1,6 @@
 // Reading operations from a buffer: what stands at a position, and where the data of an operation lie.
+#![tactic(auto)]
+
 ghost use Rattle.std.specs.Prelude.{◌≡◌, not, ◌+◌, ◌^◌, ◌≤◌, ◌<◌, length, get_or};
 ghost use Rattle.operation.specs.Number.{number_at};
 ghost use Rattle.decoder.specs.Front.{format_error, can, fd, xl, confirm, arbitration_lost, bus_error, configuration, status, wakeup, setting_of, shape_of, verdict, judge, decode, whole_length, front};
@@ -7,7 +9,7 @@ ghost use Rattle.decoder.specs.Reading.{read_at, data_at};
 use operation::Operation;
 
 // What stands at the front of some bytes, and how many of them it takes up.
-#[derive(Drop)]
+#[derive(Clone, Copy)]
 pub enum Front {
     End,
     Fault { number: u8, size: usize },
@@ -15,13 +17,13 @@ pub enum Front {
 }
 
 // A position in a buffer.
-#[derive(Drop)]
+#[derive(Clone, Copy)]
 pub struct Cursor {
     pub at: usize,
 }
 
 // What reading at a cursor gives, with the moved cursor.
-#[derive(Drop)]
+#[derive(Clone, Copy)]
 pub enum Reading {
     AtEnd,
     Faulty { number: u8, next: Cursor },

@@ -1,4 +1,6 @@
 // Writing one operation to the front of a buffer. The answer is decided before the first byte is stored.
+#![tactic(auto)]
+
 ghost use Rattle.std.specs.Prelude.{◌≡◌, [], ◌∷◌, ◌++◌, ◌+◌, ◌≤◌, true, false, eqb, length};
 ghost use Rattle.operation.specs.Number.{little_endian};
 ghost use Rattle.operation.specs.Format.{head_length, length_of, header, encode};
@@ -10,7 +12,7 @@ use buffers::{put, put_long, put1, put2, put4};
 use operation::Operation;
 
 // The answer of a write: the length written, or the refusal.
-#[derive(Drop)]
+#[derive(Clone, Copy)]
 pub enum Written {
     Done(usize),
     RuleBroken,

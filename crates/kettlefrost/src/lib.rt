@@ -1,4 +1,6 @@
 // The calls for C and Rust: the proved calls over records of plain numbers and lent buffers.
+#![tactic(auto)]
+
 pub mod layout;
 pub mod register;
 
@@ -23,7 +25,7 @@ use slots::Slot;
 // An operation: its code, and its fields in the order of the table; 0 where its kind has no such field. word is AF, or the value
 // of a Configuration; length is DL or n; first to fourth are the one-byte fields.
 #[repr(C)]
-#[derive(Drop)]
+#[derive(Clone, Copy)]
 pub struct FlatOperation {
     pub code: u32,
     pub id: u32,
@@ -36,7 +38,7 @@ pub struct FlatOperation {
 }
 
 #[repr(C)]
-#[derive(Drop)]
+#[derive(Clone, Copy)]
 pub struct ReadAnswer {
     pub end: u32,
     pub fault: u32,
@@ -45,21 +47,21 @@ pub struct ReadAnswer {
 }
 
 #[repr(C)]
-#[derive(Drop)]
+#[derive(Clone, Copy)]
 pub struct PartAnswer {
     pub start: usize,
     pub length: usize,
 }
 
 #[repr(C)]
-#[derive(Drop)]
+#[derive(Clone, Copy)]
 pub struct WriteAnswer {
     pub refusal: usize,
     pub length: usize,
 }
 
 // The operation that a record names.
-#[derive(Drop)]
+#[derive(Clone, Copy)]
 pub enum Named {
     Known(Operation),
     Unknown,

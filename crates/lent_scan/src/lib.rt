@@ -1,5 +1,7 @@
 // The one pass over the lent slots, which are read in place; and the slots that a call changed, put back. For the public calls only: what
 // is required is theirs to meet.
+#![tactic(auto)]
+
 ghost use Rattle.std.specs.Prelude.{◌≡◌, ◌≤◌, ◌<◌, ◌+◌, length};
 ghost use Rattle.slots.specs.Blocks.{set_block};
 ghost use Rattle.scan.specs.Scan.{frames_key, scanned};

@@ -1,4 +1,6 @@
 // The lent slots, four at a time and all at once. These are for the bus crate above only: each has a requires that its caller must meet.
+#![tactic(auto)]
+
 ghost use Rattle.std.specs.Prelude.{◌≡◌, [], ◌∷◌, map, ◌+◌, ◌≤◌, length};
 ghost use Rattle.slots.specs.Blocks.{block_at, set_block};
 ghost use Rattle.slots.specs.declared.Slot.{Slot};

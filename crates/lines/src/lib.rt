@@ -1,4 +1,6 @@
 // A line of text on its way to standard output. It is written where it ends, and in parts where it is longer than SPACE.
+#![tactic(auto)]
+
 ghost use Rattle.std.specs.Prelude.{◌≡◌, [], ◌∷◌, ◌-◌, ◌≤◌, ◌<◌};
 ghost use Rattle.lines.specs.Text.{space, Holds, Gains, blanks, hex_digit, hex_digits, apart, hex_bytes, field, named, GainsNumber};
 

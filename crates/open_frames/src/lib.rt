@@ -1,4 +1,6 @@
 // The register that a node keeps of its open frames (01: the book): new, enter a submitted buffer, read a collected one.
+#![tactic(auto)]
+
 ghost use Rattle.std.specs.Prelude.{◌≡◌, [], ◌≤◌, ◌<◌};
 ghost use Rattle.operation.specs.Kinds.{id_of};
 ghost use Rattle.decoder.specs.Stream.{operation, items_of};
@@ -14,7 +16,7 @@ pub const MAX_OPEN: u32 = 345;
 
 // The first count of ids are the open ones, oldest first; off is not 0 where the node is Bus-Off.
 #[repr(C)]
-#[derive(Drop)]
+#[derive(Clone, Copy)]
 pub struct Register {
     pub ids: [u32; 345],
     pub count: u32,
@@ -22,20 +24,20 @@ pub struct Register {
 }
 
 #[repr(C)]
-#[derive(Drop)]
+#[derive(Clone, Copy)]
 pub struct RegisterAnswer {
     pub number: u32,
     pub register: Register,
 }
 
 // The two calls that take a buffer.
-#[derive(Drop)]
+#[derive(Clone, Copy)]
 enum Call {
     Enter,
     Read,
 }
 
-#[derive(Drop)]
+#[derive(Clone, Copy)]
 enum Verdict {
     Done,
     Full,
@@ -43,7 +45,7 @@ enum Verdict {
 }
 
 // What a step of a call gives. Only where it is Done does the register count.
-#[derive(Drop)]
+#[derive(Clone, Copy)]
 struct Step {
     verdict: Verdict,
     register: Register,

@@ -1,5 +1,7 @@
 // The ten operations of the standard's CAN chapter (CAN, CAN FD, CAN XL): their fields, sizes and content rules.
 // Payload bytes stay outside, in the buffer that an operation is read from or written to.
+#![tactic(auto)]
+
 ghost use Rattle.std.specs.Prelude.{◌≡◌, ◌≤◌, ◌&&◌};
 ghost use Rattle.operation.specs.Format.{head_length, data_length, configuration_length};
 ghost use Rattle.operation.specs.Rules.{is_bit, max_id, one_of, fd_length, can_length, remote_rule, error_codes, error_flags, behaviours, setting_rule, legal};
@@ -59,7 +61,7 @@ pub const WAKEUP_LENGTH: usize = 8;
 
 pub const FORMAT_ERROR_HEAD: usize = 10;
 
-#[derive(Drop)]
+#[derive(Clone, Copy)]
 pub enum Operation {
     FormatError {
         n: u16,

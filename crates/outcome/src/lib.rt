@@ -1,4 +1,6 @@
 // What a call of the bus comes to: an outcome beside the state, and from it the answer with the number and the values of 01.
+#![tactic(auto)]
+
 ghost use Rattle.std.specs.Prelude.{◌≡◌};
 ghost use Rattle.outcome.specs.Outcome.{answer_of, answer_row};
 
@@ -6,7 +8,7 @@ use bus_state::State;
 use slots::Slot;
 
 // One case for each refusal of the table, and one for each way to be done.
-#[derive(Drop)]
+#[derive(Clone, Copy)]
 pub enum Outcome {
     WrongMemory,
     BadNodeCount,
@@ -30,7 +32,7 @@ pub enum Outcome {
 }
 
 // An outcome with the state after it, and the four slots, from a position on, that are all it changes among the slots.
-#[derive(Drop)]
+#[derive(Clone, Copy)]
 pub struct Change {
     pub outcome: Outcome,
     pub state: State,
@@ -41,7 +43,7 @@ pub struct Change {
 // What a public call answers: the number of 01; of a round that is carried out sender, ID, whether errored, and age, or that it
 // was idle; of a collect the length; and the state. What a call has no value for is 0.
 #[repr(C)]
-#[derive(Drop)]
+#[derive(Clone, Copy)]
 pub struct Answer {
     pub number: u32,
     pub id: u32,

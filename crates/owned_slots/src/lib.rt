@@ -1,4 +1,6 @@
 // The calls of the bus for a program that owns the slots: it hands them over by value, and has them back beside the answer.
+#![tactic(auto)]
+
 ghost use Rattle.std.specs.Prelude.{◌≡◌, length};
 ghost use Rattle.bus_state.specs.Memory.{held};
 ghost use Rattle.bus_model.specs.Primitives.{new_state};

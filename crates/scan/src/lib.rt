@@ -1,5 +1,7 @@
 // One pass over the pending frames for all that a call asks of them: whether state and slots are valid, and which frame is first. Here
 // are its steps, for the crates above: lent_scan goes over the lent slots by them. What is required the callers must meet.
+#![tactic(auto)]
+
 ghost use Rattle.std.specs.Prelude.{◌≡◌, ◌&&◌, leb, ◌+◌, ◌≤◌, ◌<◌};
 ghost use Rattle.bus_state.specs.Memory.{slot_count, slots_per_node};
 ghost use Rattle.scan.specs.Winner.{Small};
@@ -10,7 +12,7 @@ use bus_state::{NodeState, State};
 use slots::Slot;
 
 // The first of the frames seen so far: what it is compared by, its node, and its position among that node's pending frames.
-#[derive(Drop)]
+#[derive(Clone, Copy)]
 pub enum Winner {
     Nobody,
     First {
@@ -21,7 +23,7 @@ pub enum Winner {
 }
 
 // The pass along a node's frames: the key so far, and the round at which the last frame was accepted.
-#[derive(Drop)]
+#[derive(Clone, Copy)]
 pub struct Run {
     pub key: u64,
     pub low: u32,

@@ -1,5 +1,7 @@
 // Plays the sessions W5 and W6 of document 01 through the public calls, collecting nothing before the end, and writes each queue in
 // hexadecimal, a line a node.
+#![tactic(auto)]
+
 use bus_state::State;
 use lines::Line;
 use owned_slots::Owned;

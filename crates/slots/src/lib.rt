@@ -1,4 +1,6 @@
 // The pending slot (01: a place) by value.
+#![tactic(auto)]
+
 ghost use Rattle.std.specs.Prelude.{◌≡◌};
 ghost use Rattle.operation.specs.Kinds.{id_of};
 ghost use Rattle.slots.specs.Slots.{slot_row, free_slot, content_of, held_in, legal_content};
@@ -9,7 +11,7 @@ use operation::Operation;
 // What a pending frame needs besides its data: its sender, the round at which it was accepted, and the Transmit. kind is the
 // code of the Transmit, and any other number in a slot that holds none; first to fourth are the one-byte fields in their order.
 #[repr(C)]
-#[derive(Drop)]
+#[derive(Clone, Copy)]
 pub struct Slot {
     pub accepted: u32,
     pub id: u32,
@@ -23,7 +25,7 @@ pub struct Slot {
     pub fourth: u8,
 }
 
-#[derive(Drop)]
+#[derive(Clone, Copy)]
 pub enum Content {
     Free,
     Transmit(Operation),

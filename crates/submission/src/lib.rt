@@ -1,5 +1,7 @@
 // Submitting a buffer (01: handing in) to a valid state: decided on the state alone first, then carried out. A refused buffer has
 // touched no lent byte. This is for the bus crate above: what is required its caller must meet.
+#![tactic(auto)]
+
 ghost use Rattle.std.specs.Prelude.{◌≡◌, true, List, [], ◌+◌, ◌*◌, ◌≤◌, ◌<◌, length};
 ghost use Rattle.operation.specs.Rules.{legal};
 ghost use Rattle.operation.specs.Format.{length_of, encode};
@@ -24,7 +26,7 @@ use outcome::{Change, Outcome};
 use slots::Slot;
 
 // What an item of a buffer does.
-#[derive(Drop)]
+#[derive(Clone, Copy)]
 enum Effect {
     Nothing,
     Transmit(Operation),
@@ -36,21 +38,21 @@ enum Effect {
 }
 
 // What an item does, and where it ends.
-#[derive(Drop)]
+#[derive(Clone, Copy)]
 struct Step {
     effect: Effect,
     end: usize,
 }
 
 // What stands at a position of a buffer: a step, or its end.
-#[derive(Drop)]
+#[derive(Clone, Copy)]
 enum Next {
     End,
     At(Step),
 }
 
 // Whether a step can be done, or its refusal.
-#[derive(Drop)]
+#[derive(Clone, Copy)]
 enum Verdict {
     Goes,
     FourPending,
