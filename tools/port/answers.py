@@ -160,8 +160,14 @@ class Function:
             for new, old, path in p["arm"][2]:
                 if path and rest[: len(path)] == path and norm(old).rstrip("0123456789") in (norm(p["old"]).rstrip("0123456789"), norm(field).rstrip("0123456789")):
                     return f"c.{p['arm'][0]}.{new}", len(path)
-        # a step of this place or an earlier one
-        q = place
+            if rest and norm(p["old"]) == norm(field):
+                for new, old, path in p["arm"][2]:
+                    if not path and norm(old) == norm(field):
+                        return f"c.{p['arm'][0]}.{new}", 0
+        # an old step's name stands once in a function: it is looked for from the goal's place back
+        if field.endswith("_lem"):
+            field = field[: -len("_lem")]
+        q = self.goal
         while q is not None:
             it = self.places[q]
             if norm(it["old"]) == norm(field):
@@ -178,6 +184,7 @@ class Function:
 
     def turn(self, body, place):
         """An answer's body with its paths in today's form."""
+        self.goal = place
         alias = {"c": place}
         out, i = [], 0
         path = re.compile(rf"(?<![\w'.-])({NAME})((?:\.[\w'-]+)+)")
@@ -186,7 +193,7 @@ class Function:
             if m.group(2) in alias:
                 p = alias[m.group(2)]
                 for _ in range(m.group(3).count(".before")):
-                    p = self.before(p) if p else None
+                    p = self.before(p) or "Start"
                 alias[m.group(1)] = p
         while True:
             m = path.search(body, i)
@@ -202,12 +209,10 @@ class Function:
             p = alias[base]
             k = 0
             while k < len(fields) and fields[k] == "before":
-                p = self.before(p) if p else None
+                p = self.before(p) or "Start"
                 k += 1
             if p is None:
-                self.left.append("a path goes past the start: " + m.group(0))
-                out.append(m.group(0))
-                continue
+                p = "Start"
             if k == len(fields):
                 out.append("c")
                 continue
@@ -218,6 +223,7 @@ class Function:
                 continue
             text, used = got
             rest = fields[k + 1 + used :]
+            rest = [{"taken": "true", "left": "false"}.get(rest[0], rest[0])] + rest[1:] if rest else rest
             out.append(".".join([text] + rest))
         body = "".join(out)
         # aliases that are only places go
