@@ -75,6 +75,22 @@ def contracts():
 CONTRACTS = contracts()
 
 
+def arrays():
+    """The parameters of each function that are arrays."""
+    found = {}
+    for path in glob.glob("crates/*/src/**/*.rt", recursive=True):
+        crate = path.split("/")[1]
+        stem = os.path.relpath(path, f"crates/{crate}/src")[:-3].replace("/", "::")
+        stem = "" if stem in ("lib", "main") else stem + "::"
+        with open(path, encoding="utf-8") as f:
+            for m in re.finditer(r"\bfn (\w+)\(([^)]*)\)", f.read()):
+                found[f"{crate}::{stem}{m.group(1)}"] = re.findall(r"(\w+): \[", m.group(2))
+    return found
+
+
+ARRAYS = arrays()
+
+
 def clause(names, rest):
     """A path into clauses that nest to the right, by the clause's name: (name, fields used)."""
     n = len(names)
@@ -226,6 +242,16 @@ class Function:
             rest = [{"taken": "true", "left": "false"}.get(rest[0], rest[0])] + rest[1:] if rest else rest
             out.append(".".join([text] + rest))
         body = "".join(out)
+        # a test of !b says what b is, a field that is an array has its length, and an array parameter goes by its name
+        body = re.sub(r"not-(?:true|false) _ (c\.if-not-[\w'-]+(?:\.in_[\w-]+)?\.(?:true|false))", r"\1", body)
+        body = re.sub(r"sym \(length-map [^()]+ _\) ∙ ", "", body)
+        arrays = ARRAYS.get(self.crate + "::" + os.path.relpath(self.path, f"crates/{self.crate}/proofs").replace("/", "::"), [])
+        seen = sorted(set(re.findall(r"\b(?:c\.args|a|b)\.(t\d+)\b", body)), key=lambda w: int(w[1:]))
+        for t in seen:
+            if len(arrays) == 1:
+                body = re.sub(rf"\.{t}\b", "." + arrays[0], body)
+            else:
+                self.left.append(f"{t} is one of the arrays {arrays}")
         # aliases that are only places go
         body = re.sub(rf"\n? *let ({NAME}) = c in", lambda m: "" if m.group(1) in alias else m.group(0), body)
         return body
