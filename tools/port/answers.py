@@ -202,6 +202,11 @@ class Function:
         """An answer's body with its paths in today's form."""
         self.goal = place
         alias = {"c": place}
+        for m in list(re.finditer(rf"\n? *let ({NAME}) = ({NAME}(?:\.[\w'-]+)*\.given) in", body)):
+            rest = body.replace(m.group(0), "")
+            rest = re.sub(rf"(?<![\w'.-]){re.escape(m.group(1))}\.", m.group(2) + ".", rest)
+            if not re.search(rf"(?<![\w'.-]){re.escape(m.group(1))}(?![\w'.-])", rest):
+                body = rest
         out, i = [], 0
         path = re.compile(rf"(?<![\w'.-])({NAME})((?:\.[\w'-]+)+)")
         # aliases first, in order: let s = c.before.before in
