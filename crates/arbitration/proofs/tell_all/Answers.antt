@@ -5,7 +5,7 @@ use Rattle.arbitration.proofs.Lengths.{discarded-few}
 use Rattle.arbitration.proofs.Rooms.{room_at, owed-fits}
 use Rattle.arbitration.proofs.Settled.{entries_next, entries-end, queues-next, queues-end}
 use Rattle.arbitration.proofs.Told.{notices_next, notices_end}
-use Rattle.arbitration.specs.After.{state_after, queues_after}
+use Rattle.arbitration.specs.After.{state_after}
 use Rattle.bus_state.specs.Memory.{is_off, node_state, no_node}
 use Rattle.arbitration.specs.Owed.{discarded, news_to, notice_of, notices_but, owed_to}
 use Rattle.buffers.proofs.Offsets.{length_over}
