@@ -6,6 +6,7 @@ use Rattle.submission.specs.Effects.{Taken}
 use borrow.Author.Tests.{eq-eqb, ne_eqb}
 use lib.ListN.{length}
 use mathlib.Core.Path.{◌≡◌, refl, sym, ◌∙◌}
+use borrow.Author.Rules.{rules}
 use native.Mathlib.Omega.{arith}
 use Rattle.submission.proofs.carry_buffer.Goals as goal
 
@@ -103,7 +104,7 @@ loop-step-preserved-in-0 c =
     let g = c.loop-step.invariant in
     let q = c.in-Transmit.is in
     let o = ne_eqb _ _ c.if-d-ne-BUS_OFF.true in
-    frame-turn g _ t c.entry_after-after.ensures q o c.payload-1.given (c.«data».ensures ∙ (t.fit _ q).0) (rw (c.in-0.is, c.slot_of-slot.ensures)) c.lay_data.ensures
+    frame-turn g _ t c.entry_after-after.ensures q o (search rules) (c.«data».ensures ∙ (t.fit _ q).0) (rw (c.in-0.is, c.slot_of-slot.ensures)) c.lay_data.ensures
 
 pub loop-step-smaller-in-1 : goal.loop-step-smaller-in-1
 loop-step-smaller-in-1 c = let t = next-taken c.args.buffer.now c.loop-step.at c.step_at.ensures c.in-At.is in omega (arith, t.forward, t.within)
@@ -114,7 +115,7 @@ loop-step-preserved-in-1 c =
     let g = c.loop-step.invariant in
     let q = c.in-Transmit.is in
     let o = ne_eqb _ _ c.if-d-ne-BUS_OFF.true in
-    frame-turn g _ t c.entry_after-after.ensures q o c.payload-1.given (c.«data».ensures ∙ (t.fit _ q).0) (rw (c.in-1.is, c.slot_of-slot.ensures)) c.lay_data.ensures
+    frame-turn g _ t c.entry_after-after.ensures q o (search rules) (c.«data».ensures ∙ (t.fit _ q).0) (rw (c.in-1.is, c.slot_of-slot.ensures)) c.lay_data.ensures
 
 pub loop-step-smaller-in-2 : goal.loop-step-smaller-in-2
 loop-step-smaller-in-2 c = let t = next-taken c.args.buffer.now c.loop-step.at c.step_at.ensures c.in-At.is in omega (arith, t.forward, t.within)
@@ -125,7 +126,7 @@ loop-step-preserved-in-2 c =
     let g = c.loop-step.invariant in
     let q = c.in-Transmit.is in
     let o = ne_eqb _ _ c.if-d-ne-BUS_OFF.true in
-    frame-turn g _ t c.entry_after-after.ensures q o c.payload-1.given (c.«data».ensures ∙ (t.fit _ q).0) (rw (c.in-2.is, c.slot_of-slot.ensures)) c.lay_data.ensures
+    frame-turn g _ t c.entry_after-after.ensures q o (search rules) (c.«data».ensures ∙ (t.fit _ q).0) (rw (c.in-2.is, c.slot_of-slot.ensures)) c.lay_data.ensures
 
 pub loop-step-smaller-in_default : goal.loop-step-smaller-in_default
 loop-step-smaller-in_default c = let t = next-taken c.args.buffer.now c.loop-step.at c.step_at.ensures c.in-At.is in omega (arith, t.forward, t.within)
@@ -136,9 +137,8 @@ loop-step-preserved-in_default c =
     let g = c.loop-step.invariant in
     let q = c.in-Transmit.is in
     let o = ne_eqb _ _ c.if-d-ne-BUS_OFF.true in
-    let e = c.in_default.in_default-own.rest in
-    let last : c.loop-step.d.pending ≡ 3 = omega (arith, turn_few g _ t q o, e.1, e.0.1, e.0.0.1) in
-    frame-turn g _ t c.entry_after-after.ensures q o c.payload-1.given (c.«data».ensures ∙ (t.fit _ q).0) (rw (last, c.slot_of-slot.ensures)) c.lay_data.ensures
+    let last : c.loop-step.d.pending ≡ 3 = omega (arith, turn_few g _ t q o) in
+    frame-turn g _ t c.entry_after-after.ensures q o (search rules) (c.«data».ensures ∙ (t.fit _ q).0) (rw (last, c.slot_of-slot.ensures)) c.lay_data.ensures
 
 pub loop-step-smaller-else-d-ne-BUS_OFF : goal.loop-step-smaller-else-d-ne-BUS_OFF
 loop-step-smaller-else-d-ne-BUS_OFF c = let t = next-taken c.args.buffer.now c.loop-step.at c.step_at.ensures c.in-At.is in omega (arith, t.forward, t.within)
@@ -156,7 +156,7 @@ pub loop-step-preserved-in-Answer : goal.loop-step-preserved-in-Answer
 loop-step-preserved-in-Answer c =
     let t = next-taken c.args.buffer.now c.loop-step.at c.step_at.ensures c.in-At.is in
     let g = c.loop-step.invariant in
-    answer-turn g _ t c.entry_after-after.ensures c.in-Answer.is c.queues-1.given c.answer.ensures
+    answer-turn g _ t c.entry_after-after.ensures c.in-Answer.is (search rules) c.answer.ensures
 
 pub loop-step-smaller-in-SetRate : goal.loop-step-smaller-in-SetRate
 loop-step-smaller-in-SetRate c = let t = next-taken c.args.buffer.now c.loop-step.at c.step_at.ensures c.in-At.is in omega (arith, t.forward, t.within)
@@ -192,7 +192,7 @@ pub loop-step-preserved-then-d-ne-BUS_OFF-2 : goal.loop-step-preserved-then-d-ne
 loop-step-preserved-then-d-ne-BUS_OFF-2 c =
     let t = next-taken c.args.buffer.now c.loop-step.at c.step_at.ensures c.in-At.is in
     let g = c.loop-step.invariant in
-    wake-turn g _ t c.entry_after-after.ensures c.in-Wake.is (ne_eqb _ _ c.if-d-ne-BUS_OFF-2.true) c.queues-then-d-ne-BUS_OFF-2-1.given c.wake.ensures
+    wake-turn g _ t c.entry_after-after.ensures c.in-Wake.is (ne_eqb _ _ c.if-d-ne-BUS_OFF-2.true) (search rules) c.wake.ensures
 
 pub loop-step-smaller : goal.loop-step-smaller
 loop-step-smaller c = let t = next-taken c.args.buffer.now c.loop-step.at c.step_at.ensures c.in-At.is in omega (arith, t.forward, t.within)
