@@ -2,7 +2,6 @@ use Rattle.submission.proofs.Blocks.{four-slots}
 use Rattle.submission.proofs.Takes.{next-end, next-taken}
 use Rattle.submission.proofs.Turns.{going_first, turn_can, turn_few, turn_fits, turn_room, quiet-turn, answer-turn, wake-turn, frame-turn}
 use Rattle.submission.proofs.Walks.{memory-end}
-use Rattle.submission.specs.Effects.{Taken}
 use borrow.Author.Tests.{eq-eqb, ne_eqb}
 use lib.ListN.{length}
 use mathlib.Core.Path.{◌≡◌, refl, sym, ◌∙◌}

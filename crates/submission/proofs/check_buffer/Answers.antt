@@ -2,7 +2,6 @@ use Rattle.submission.proofs.Stands.{stand}
 use Rattle.submission.proofs.Takes.{next-end, next-taken}
 use Rattle.submission.proofs.Turns.{checking_first, full-checked, wakeup-checked, entry-refused, entry-checked}
 use Rattle.submission.proofs.Walks.{check-end}
-use Rattle.submission.specs.Effects.{Taken}
 use Rattle.submission.specs.declared.Verdict.TheVariants.{FourPending, QueueFull}
 use lib.ListN.{length}
 use mathlib.Core.Path.{◌≡◌, refl, sym, ◌∙◌}
