@@ -1,0 +1,11 @@
+-- Each arm names the field that the definition names.
+use Rattle.operation.proofs.data_length.Goals as goal
+
+pub returns-in-CanTransmit : goal.returns-in-CanTransmit
+returns-in-CanTransmit c = rw c.in-CanTransmit.is
+
+pub returns-in-FdTransmit : goal.returns-in-FdTransmit
+returns-in-FdTransmit c = rw c.in-FdTransmit.is
+
+pub returns-in-XlTransmit : goal.returns-in-XlTransmit
+returns-in-XlTransmit c = rw c.in-XlTransmit.is
