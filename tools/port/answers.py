@@ -75,6 +75,22 @@ def contracts():
 CONTRACTS = contracts()
 
 
+def arrays():
+    """The parameters of each function that are arrays."""
+    found = {}
+    for path in glob.glob("crates/*/src/**/*.rt", recursive=True):
+        crate = path.split("/")[1]
+        stem = os.path.relpath(path, f"crates/{crate}/src")[:-3].replace("/", "::")
+        stem = "" if stem in ("lib", "main") else stem + "::"
+        with open(path, encoding="utf-8") as f:
+            for m in re.finditer(r"\bfn (\w+)\(([^)]*)\)", f.read()):
+                found[f"{crate}::{stem}{m.group(1)}"] = re.findall(r"(\w+): \[", m.group(2))
+    return found
+
+
+ARRAYS = arrays()
+
+
 def clause(names, rest):
     """A path into clauses that nest to the right, by the clause's name: (name, fields used)."""
     n = len(names)
@@ -160,8 +176,14 @@ class Function:
             for new, old, path in p["arm"][2]:
                 if path and rest[: len(path)] == path and norm(old).rstrip("0123456789") in (norm(p["old"]).rstrip("0123456789"), norm(field).rstrip("0123456789")):
                     return f"c.{p['arm'][0]}.{new}", len(path)
-        # a step of this place or an earlier one
-        q = place
+            if rest and norm(p["old"]) == norm(field):
+                for new, old, path in p["arm"][2]:
+                    if not path and norm(old) == norm(field):
+                        return f"c.{p['arm'][0]}.{new}", 0
+        # an old step's name stands once in a function: it is looked for from the goal's place back
+        if field.endswith("_lem"):
+            field = field[: -len("_lem")]
+        q = self.goal
         while q is not None:
             it = self.places[q]
             if norm(it["old"]) == norm(field):
@@ -178,7 +200,13 @@ class Function:
 
     def turn(self, body, place):
         """An answer's body with its paths in today's form."""
+        self.goal = place
         alias = {"c": place}
+        for m in list(re.finditer(rf"\n? *let ({NAME}) = ({NAME}(?:\.[\w'-]+)*\.given) in", body)):
+            rest = body.replace(m.group(0), "")
+            rest = re.sub(rf"(?<![\w'.-]){re.escape(m.group(1))}\.", m.group(2) + ".", rest)
+            if not re.search(rf"(?<![\w'.-]){re.escape(m.group(1))}(?![\w'.-])", rest):
+                body = rest
         out, i = [], 0
         path = re.compile(rf"(?<![\w'.-])({NAME})((?:\.[\w'-]+)+)")
         # aliases first, in order: let s = c.before.before in
@@ -186,7 +214,7 @@ class Function:
             if m.group(2) in alias:
                 p = alias[m.group(2)]
                 for _ in range(m.group(3).count(".before")):
-                    p = self.before(p) if p else None
+                    p = self.before(p) or "Start"
                 alias[m.group(1)] = p
         while True:
             m = path.search(body, i)
@@ -202,12 +230,10 @@ class Function:
             p = alias[base]
             k = 0
             while k < len(fields) and fields[k] == "before":
-                p = self.before(p) if p else None
+                p = self.before(p) or "Start"
                 k += 1
             if p is None:
-                self.left.append("a path goes past the start: " + m.group(0))
-                out.append(m.group(0))
-                continue
+                p = "Start"
             if k == len(fields):
                 out.append("c")
                 continue
@@ -218,8 +244,19 @@ class Function:
                 continue
             text, used = got
             rest = fields[k + 1 + used :]
+            rest = [{"taken": "true", "left": "false"}.get(rest[0], rest[0])] + rest[1:] if rest else rest
             out.append(".".join([text] + rest))
         body = "".join(out)
+        # a test of !b says what b is, a field that is an array has its length, and an array parameter goes by its name
+        body = re.sub(r"not-(?:true|false) _ (c\.if-not-[\w'-]+(?:\.in_[\w-]+)?\.(?:true|false))", r"\1", body)
+        body = re.sub(r"sym \(length-map [^()]+ _\) ∙ ", "", body)
+        arrays = ARRAYS.get(self.crate + "::" + os.path.relpath(self.path, f"crates/{self.crate}/proofs").replace("/", "::"), [])
+        seen = sorted(set(re.findall(r"\b(?:c\.args|a|b)\.(t\d+)\b", body)), key=lambda w: int(w[1:]))
+        for t in seen:
+            if len(arrays) == 1:
+                body = re.sub(rf"\.{t}\b", "." + arrays[0], body)
+            else:
+                self.left.append(f"{t} is one of the arrays {arrays}")
         # aliases that are only places go
         body = re.sub(rf"\n? *let ({NAME}) = c in", lambda m: "" if m.group(1) in alias else m.group(0), body)
         return body

@@ -133,7 +133,10 @@ def respell(text, new, dashed, crates):
 
         def one(m, at=at, comment=comment):
             word = m.group(0)
-            if word not in new or word in foreign or ("-" in word and (comment or not dashed)):
+            if word not in new or word in foreign or ("-" in word and comment):
+                return word
+            # of src/ only the clauses name definitions, and those were in camel case
+            if not dashed and not CAMEL.search(word):
                 return word
             # behind a dot a name that has dashes, or is snake case, is a step's
             if text[at + m.start() - 1] == "." and not CAMEL.search(word):

@@ -211,7 +211,7 @@ fn owed_length(d: NodeState, mine: bool, e: Injection, size: usize) -> usize
 }
 
 // Whether every queue has room for what its node is owed; size is the length of the winner's Transmit.
-fn has_room_lem(s: State, e: Injection, owner: usize, size: usize) -> bool
+fn has_room(s: State, e: Injection, owner: usize, size: usize) -> bool
     requires { (s.count ≤ 8) × (1 ≤ (node_state s owner).pending) × (size ≤ 2070) }
     ensures { result ≡ room_from e s.nodes owner size 0 s.count }
 {
@@ -483,7 +483,7 @@ fn arbitrate(
 {
     let op = slots::held_in(four[position]);
     let size = operation::head_length(op) + operation::data_length(op) as usize;
-    if !has_room_lem(s, e, owner, size) {
+    if !has_room(s, e, owner, size) {
         return Change {
             outcome: Outcome::QueueFull,
             state: s,

@@ -53,6 +53,8 @@ items-agree k (i ∷ is) m g h v u =
     go (goes_on m') (done b) a rest =
         let c : m'.state.count ≡ m.state.count = a.2 in
         rw (← a.0, ← c) (rest m' a.1 (rw c h))
+    go (goes_on m') (fails r') a rest = elim a [ ]
+    go (stops r) (done b) a rest = elim a [ ]
     go (stops r) (fails r') a rest = rw (← a) (stopped is r)
 
 -- ---- the call
@@ -60,6 +62,8 @@ items-agree k (i ∷ is) m g h v u =
 module _ (m : Memory) (g : Good m) (k : ℕ) (buffer : List ℕ) (u : Bytes buffer) where
   taken_refines : (p : Progress) (s : Step) → Agrees m.state.count p s → Refines (taken_in m p) (taken_whole (view m) s)
   taken_refines (goes_on m') (done b) a = changed m' b a.1 a.0 accepted
+  taken_refines (goes_on m') (fails r') a = elim a [ ]
+  taken_refines (stops r) (done b) a = elim a [ ]
   taken_refines (stops r) (fails r') a = rw (← a) (unchanged m g (refused r))
 
   submitted_refines : Refines (submitted m k buffer) (submit (view m) k buffer)

@@ -19,6 +19,7 @@ Among y [] = ⊥
 Among y (x ∷ xs) = (y ≡ x) ⊎ Among y xs
 
 among-left : (y : Entry) (xs ys : List Entry) → Among y xs → Among y (xs ++ ys)
+among-left y [] ys a = elim a [ ]
 among-left y (x ∷ xs) ys (inl e) = inl e
 among-left y (x ∷ xs) ys (inr a) = inr (among-left y xs ys a)
 
@@ -55,6 +56,7 @@ first_of_lem x [] = record { entry = x; first = refl; among = inl refl; least = 
   where
     go : (y : Entry) → Among y (x ∷ []) → goes_before y x ≡ false
     go y (inl e) = rw e (before_irreflexive x)
+    go y (inr a) = elim a [ ]
 first_of_lem x (y ∷ xs) = go (goes_before y x) refl (first_of_lem y xs) (first_of_lem x xs)
   where
     go : (t : Bool) → goes_before y x ≡ t → First (first_of (wins y) xs) (y ∷ xs) → First (first_of (wins x) xs) (x ∷ xs)
@@ -87,6 +89,7 @@ record Held (k i : ℕ) (fs : List Frame) (y : Entry) : Type 0 where
 
 entries-held : (k i : ℕ) (fs : List Frame) (y : Entry) → Among y (entries_of k i fs) → Held k i fs y
 unfolding entries_of
+entries-held k i [] y a = elim a [ ]
 entries-held k i (f ∷ fs) y (inl e) = record {
   index = 0;
   owner = ap (λ (x : Entry). x.owner) e;
@@ -121,6 +124,7 @@ record HeldFrom (k : ℕ) (ds : List Node) (y : Entry) : Type 0 where
 
 entries_from_lem : (k : ℕ) (ds : List Node) (y : Entry) → Among y (entries_from k ds) → HeldFrom k ds y
 unfolding entries_from
+entries_from_lem k [] y a = elim a [ ]
 entries_from_lem k (d ∷ ds) y a =
     go (among_either y (entries_of k 0 d.pending) (entries_from (suc k) ds) a) (entries_from_lem (suc k) ds y)
   where

@@ -143,27 +143,31 @@ laid_behind d k u i q = rw (fill_none (entry_woken d k u i) k i)
 -- ---- what they leave at each node
 
 module _ (k u : ℕ) where
+  -- the entries with that of node j woken
+  abbrev woken_at : List NodeState → ℕ → List NodeState
+  woken_at nodes j = set nodes j (entry_woken (get_or nodes j no_node) k u j)
+
   pub woken_length : (nodes : List NodeState) (j n : ℕ) → length (woken_from nodes k u j n) ≡ length nodes
   unfolding woken_from
   woken_length nodes j zero = refl
-  woken_length nodes j (suc n) = woken_length _ (suc j) n ∙ length-set nodes j _
+  woken_length nodes j (suc n) = woken_length (woken_at nodes j) (suc j) n ∙ length-set nodes j _
 
   woken_before : (nodes : List NodeState) (j n i : ℕ) → i < j → get_or (woken_from nodes k u j n) i no_node ≡ get_or nodes i no_node
   unfolding woken_from
   woken_before nodes j zero i h = refl
-  woken_before nodes j (suc n) i h = woken_before _ (suc j) n i (omega arith) ∙ get_or-set_other nodes j i _ no_node (λ e. omega arith)
+  woken_before nodes j (suc n) i h = woken_before (woken_at nodes j) (suc j) n i (omega arith) ∙ get_or-set_other nodes j i _ no_node (λ e. omega arith)
 
   woken_behind : (nodes : List NodeState) (j n i : ℕ) → j + n ≤ i → get_or (woken_from nodes k u j n) i no_node ≡ get_or nodes i no_node
   unfolding woken_from
   woken_behind nodes j zero i h = refl
-  woken_behind nodes j (suc n) i h = woken_behind _ (suc j) n i (omega arith) ∙ get_or-set_other nodes j i _ no_node (λ e. omega arith)
+  woken_behind nodes j (suc n) i h = woken_behind (woken_at nodes j) (suc j) n i (omega arith) ∙ get_or-set_other nodes j i _ no_node (λ e. omega arith)
 
   woken_there : (nodes : List NodeState) (j n i : ℕ) → j ≤ i → i < j + n → i < length nodes
       → get_or (woken_from nodes k u j n) i no_node ≡ entry_woken (get_or nodes i no_node) k u i
   unfolding woken_from
   woken_there nodes j zero i l h g = absurd (omega arith)
   woken_there nodes j (suc n) i l h g =
-      go (eqb i j) refl (λ q. woken_there _ (suc j) n i (omega (arith, q)) (omega arith) (rw length-set g))
+      go (eqb i j) refl (λ q. woken_there (woken_at nodes j) (suc j) n i (omega (arith, q)) (omega arith) (rw length-set g))
     where
       go : (t : Bool) → eqb i j ≡ t
           → ((i ≡ j → ⊥)
@@ -172,7 +176,7 @@ module _ (k u : ℕ) where
           → get_or (woken_from (set nodes j (entry_woken (get_or nodes j no_node) k u j)) k u (suc j) n) i no_node ≡ entry_woken (get_or nodes i no_node) k u i
       go true e later =
           let q : i ≡ j = eqb-true i j e in
-          woken_before _ (suc j) n i (omega arith) ∙ rw q (get_or-set_same nodes j _ no_node (rw q at g))
+          woken_before (woken_at nodes j) (suc j) n i (omega arith) ∙ rw q (get_or-set_same nodes j _ no_node (rw q at g))
       go false e later =
           let q : i ≡ j → ⊥ = eqb-false i j e in
           later q ∙ rw (get_or-set_other nodes j i _ no_node q)
@@ -181,7 +185,7 @@ module _ (k u : ℕ) where
   pub woken_sender : (nodes : List NodeState) (j n : ℕ) → get_or (woken_from nodes k u j n) k no_node ≡ get_or nodes k no_node
   unfolding woken_from
   woken_sender nodes j zero = refl
-  woken_sender nodes j (suc n) = woken_sender _ (suc j) n ∙ go (eqb k j) refl
+  woken_sender nodes j (suc n) = woken_sender (woken_at nodes j) (suc j) n ∙ go (eqb k j) refl
     where
       go : (t : Bool) → eqb k j ≡ t → get_or (set nodes j (entry_woken (get_or nodes j no_node) k u j)) k no_node ≡ get_or nodes k no_node
       go true e =

@@ -1,0 +1,42 @@
+use Prim.Native.Nat.{◌-◌}
+use Rattle.arbitration.proofs.Lengths.{owed-short}
+use Rattle.arbitration.proofs.Rooms.{room_bad, room-good, room-end}
+use Rattle.arbitration.proofs.Attached.{own-pending}
+use Rattle.bus_state.specs.Memory.{node_state}
+use lib.Dec.{eqb}
+use mathlib.Core.Path.{◌≡◌, sym, ◌∙◌}
+use native.Mathlib.Numerals.{add-one}
+use native.Mathlib.Omega.{arith}
+use Rattle.arbitration.proofs.has_room.Goals as goal
+
+pub loop-j-init : goal.loop-j-init
+loop-j-init c =
+    let z : c.args.s.count - 0 ≡ c.args.s.count = omega arith in
+    (omega arith, c.requires.0, rw z)
+
+pub owed_length-requires : goal.owed_length-requires
+owed_length-requires c =
+    (own-pending c.args.s c.loop-j.j c.args.owner c.requires.1, c.requires.2)
+
+pub overflow_add-d : goal.overflow_add-d
+overflow_add-d c =
+    let j = c.loop-j.j in
+    rw c.owed_length.ensures (omega (arith, c.struct_known-in-loop-j-1.given, owed-short c.args.e (node_state c.args.s j) (eqb j c.args.owner) c.args.size c.requires.2))
+
+pub returns-then-d-owed_length-gt-BYTES_PER_QUEUE : goal.returns-then-d-owed_length-gt-BYTES_PER_QUEUE
+returns-then-d-owed_length-gt-BYTES_PER_QUEUE c =
+    let l = c.loop-j in
+    let a = c.args in
+    sym (room_bad a.e a.s.nodes a.owner a.size l.j a.s.count (omega arith) (rw c.owed_length.ensures at c.if-d-owed_length-gt-BYTES_PER_QUEUE.true)) ∙ l.invariant.2
+
+pub loop-j-preserved : goal.loop-j-preserved
+loop-j-preserved c =
+    let l = c.loop-j in
+    let a = c.args in
+    (omega arith, omega arith, rw (add-one l.j) (sym (room-good a.e a.s.nodes a.owner a.size l.j a.s.count (omega arith) (rw c.owed_length.ensures at c.if-d-owed_length-gt-BYTES_PER_QUEUE.false)) ∙ l.invariant.2))
+
+pub returns : goal.returns
+returns c =
+    let a = c.args in
+    let l = c.loop-j in
+    sym (room-end a.e a.s.nodes a.owner a.size l.j a.s.count (omega arith)) ∙ l.invariant.2

@@ -1,0 +1,145 @@
+use Prim.Native.Nat.{suc, ◌+◌, ◌*◌, ◌<◌, ◌-◌}
+use Rattle.arbitration.proofs.Attached.{own-pending}
+use Rattle.arbitration.proofs.Bytes.{over-over, over_none, in_two}
+use Rattle.arbitration.proofs.Lengths.{discarded-few}
+use Rattle.arbitration.proofs.Rooms.{room_at, owed-fits}
+use Rattle.arbitration.proofs.Settled.{entries_next, entries-end, queues-next, queues-end}
+use Rattle.arbitration.proofs.Told.{notices_next, notices_end}
+use Rattle.arbitration.specs.After.{state_after, queues_after}
+use Rattle.bus_state.specs.Memory.{is_off, node_state, no_node}
+use Rattle.arbitration.specs.Owed.{discarded, news_to, notice_of, notices_but, owed_to}
+use Rattle.buffers.proofs.Offsets.{length_over}
+use Rattle.buffers.specs.Parts.{over}
+use Rattle.operation.proofs.Sizes.{head_small}
+use Rattle.slots.specs.Slots.{content_of, held_in}
+use lib.Dec.{eqb}
+use lib.ListN.{length, get_or, length-append}
+use lib.Seq.{get_or-set_other}
+use mathlib.Core.Path.{◌≡◌, refl, sym, ap, ◌∙◌}
+use native.Mathlib.Nat.{add-sub_cancel_left}
+use native.Mathlib.Numerals.{add-one}
+use native.Mathlib.Omega.{arith}
+use Rattle.arbitration.proofs.tell_all.Goals as goal
+
+pub overflow_mul-slot : goal.overflow_mul-slot
+overflow_mul-slot c =
+    omega (arith, c.requires.round_lt_last_round.2.count, c.requires.pending_at.0)
+
+pub overflow_add-slot : goal.overflow_add-slot
+overflow_add-slot c =
+    let w = c.requires.pending_at in
+    omega (arith, c.requires.round_lt_last_round.2.count, w.0, w.1, c.requires.round_lt_last_round.2.few c.args.owner w.0)
+
+pub loop-j-init : goal.loop-j-init
+loop-j-init c =
+    let z : c.args.s.count - 0 ≡ c.args.s.count = omega arith in
+    (omega arith, c.requires.round_lt_last_round.2.count, rw z, rw z, refl, λ i h. refl)
+
+pub tell-to-requires : goal.tell-to-requires
+tell-to-requires c =
+    let a = c.args in
+    let l = c.loop-j in
+    let g = c.requires.writable in
+    let r = c.requires.count_value in
+    let k = owed-fits a.e (held_in (content_of a.winner)) a.bytes.now a.size c.requires.round_lt_last_round.2 c.requires.pending_at g.1 g.2 r.0 l.j (omega arith) in
+    rw (l.invariant.5 l.j (omega arith)) (omega arith, (g.0, ((c.requires.round_lt_last_round.1, g.1, g.2), omega (arith, k, r.1, l.invariant.4))))
+
+pub overflow_add-end : goal.overflow_add-end
+overflow_add-end c =
+    let l = c.loop-j in
+    let n = rw (l.invariant.5 l.j (omega arith)) at c.discarded.ensures in
+    omega (arith, n, discarded-few (node_state c.args.s l.j), c.requires.round_lt_last_round.2.few l.j (omega arith))
+
+pub loop-p-init : goal.loop-p-init
+loop-p-init c =
+    let a = c.args in
+    let l = c.loop-j in
+    let g = c.requires.writable in
+    let r = c.requires.count_value in
+    let op = held_in (content_of a.winner) in
+    let d = node_state a.s l.j in
+    let k = owed-fits a.e op a.bytes.now a.size c.requires.round_lt_last_round.2 c.requires.pending_at g.1 g.2 r.0 l.j (omega arith) in
+    let news = news_to a.e l.j a.owner (is_off d) op a.bytes.now in
+    let few = c.requires.round_lt_last_round.2.few l.j (omega arith) in
+    let same = l.invariant.5 l.j (omega arith) in
+    let n = rw same at c.discarded.ensures in
+    let t = rw same at c.tell-to.ensures in
+    let o = length_over (4_096 * l.j + d.fill) news l.queues (omega (arith, k, r.1, l.invariant.4)) in
+    (omega arith, omega arith, omega (arith, n, few, discarded-few d), refl, rw (n, add-sub_cancel_left, t.1, t.0) (omega (arith, k, r.1, l.invariant.4, o)), refl)
+
+pub put_notice-to-requires : goal.put_notice-to-requires
+put_notice-to-requires c =
+    let a = c.args in
+    let l = c.loop-j in
+    let m = c.loop-p in
+    let slot = 4 * a.owner + a.position in
+    let few = discarded-few (node_state a.s l.j) in
+    let end = 4 * l.j + c.discarded.result in
+    let x = notices_next a.ids slot m.p end (omega arith) in
+    let n = rw (l.invariant.5 l.j (omega arith)) at c.discarded.ensures in
+    (c.requires.round_lt_last_round.2.lawful l.j (omega arith) m.p m.invariant.0 (omega (arith, n, few)), omega (arith, m.invariant.4, ap length x, length-append (notice_of (eqb m.p slot) (get_or a.ids m.p 0)) (notices_but a.ids slot (suc m.p) (end - suc m.p))))
+
+pub loop-p-preserved : goal.loop-p-preserved
+loop-p-preserved c =
+    let a = c.args in
+    let l = c.loop-j in
+    let m = c.loop-p in
+    let slot = 4 * a.owner + a.position in
+    let end = 4 * l.j + c.discarded.result in
+    let first = notice_of (eqb m.p slot) (get_or a.ids m.p 0) in
+    let rest = notices_but a.ids slot (suc m.p) (end - suc m.p) in
+    let x = notices_next a.ids slot m.p end (omega arith) in
+    let k = length-append first rest in
+    let e = c.put_notice-to.ensures in
+    let h = length_over m.to first m.queues (omega (arith, m.invariant.4, ap length x, k)) in
+    (omega arith, omega arith, m.invariant.2, rw (e.1, e.0, add-one m.p) (over-over m.queues first rest m.to (omega (arith, m.invariant.4)) ∙ ap (over m.queues m.to) (sym x) ∙ m.invariant.3), rw (e.1, e.0, add-one m.p) (omega (arith, m.invariant.4, ap length x, k, h)), ap length e.1 ∙ h ∙ m.invariant.5)
+
+pub entry_after-requires : goal.entry_after-requires
+entry_after-requires c =
+    let a = c.args in
+    let l = c.loop-j in
+    let g = c.requires.writable in
+    let room = room_at a.e a.s.nodes a.owner a.size a.s.count c.requires.count_value.0 l.j (omega arith) in
+    rw (l.invariant.5 l.j (omega arith))
+    (own-pending a.s l.j a.owner (omega (arith, c.requires.pending_at.1)), omega (arith, g.2, g.0.short, head_small (held_in (content_of a.winner))), room)
+
+pub loop-j-preserved : goal.loop-j-preserved
+unfolding owed_to
+loop-j-preserved c =
+    let a = c.args in
+    let l = c.loop-j in
+    let u : l.j < a.s.count = c.loop-j-test.true in
+    let g = c.requires.writable in
+    let r = c.requires.count_value in
+    let op = held_in (content_of a.winner) in
+    let d = node_state a.s l.j in
+    let k = owed-fits a.e op a.bytes.now a.size c.requires.round_lt_last_round.2 c.requires.pending_at g.1 g.2 r.0 l.j u in
+    let slot = 4 * a.owner + a.position in
+    let news = news_to a.e l.j a.owner (is_off d) op a.bytes.now in
+    let told = notices_but a.ids slot (4 * l.j) (discarded d) in
+    let h = length-append news told in
+    let m = c.loop-p in
+    let same = l.invariant.5 l.j (omega arith) in
+    let t = rw same at c.tell-to.ensures in
+    let end = 4 * l.j + c.discarded.result in
+    let at = 4_096 * l.j + d.fill in
+    let x = sym (over_none m.queues m.to) ∙ ap (over m.queues m.to) (sym (notices_end a.ids slot m.p end (omega arith))) ∙ m.invariant.3 in
+    let y = rw (rw same at c.discarded.ensures, add-sub_cancel_left) at x in
+    let z = in_two l.queues news told at (omega (arith, k, r.1, l.invariant.4)) t.1 t.0 y in
+    let o = length_over at (owed_to a.e d l.j a.owner a.position op a.ids a.bytes.now) l.queues (omega (arith, k, h, r.1, l.invariant.4)) in
+    (omega arith, omega arith, rw (add-one l.j, rw same at c.entry_after.ensures) (sym (entries_next a.e a.s.nodes a.owner a.size l.j a.s.count l.after (omega arith)) ∙ l.invariant.2), rw (add-one l.j, z) (sym (queues-next a.e a.s.nodes a.owner a.position op a.ids a.bytes.now l.j a.s.count l.queues (omega arith)) ∙ l.invariant.3), ap length z ∙ o ∙ l.invariant.4, λ i h. get_or-set_other l.after l.j i _ no_node (λ e. omega arith) ∙ l.invariant.5 i (omega arith))
+
+pub overflow_add-result : goal.overflow_add-result
+overflow_add-result c = omega (arith, c.requires.round_lt_last_round.0)
+
+pub shape_of-queues : goal.shape_of-queues
+shape_of-queues c = c.loop-j.invariant.4
+
+pub returns : goal.returns
+unfolding state_after
+returns c =
+    let a = c.args in
+    let l = c.loop-j in
+    let p = sym (entries-end a.e a.s.nodes a.owner a.size l.j a.s.count l.after (omega arith)) ∙ l.invariant.2 in
+    let q = sym (queues-end a.e a.s.nodes a.owner a.position (held_in (content_of a.winner)) a.ids a.bytes.now l.j a.s.count l.queues (omega arith)) ∙ l.invariant.3 in
+    record { value = rw p; queues_after = q }

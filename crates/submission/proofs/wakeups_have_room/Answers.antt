@@ -1,0 +1,33 @@
+use Prim.Native.Nat.{◌-◌}
+use Rattle.submission.proofs.Wakes.{room-end, room_bad, room-good}
+use mathlib.Core.Path.{◌≡◌, sym, ◌∙◌}
+use native.Mathlib.Numerals.{add-one}
+use native.Mathlib.Omega.{arith}
+use Rattle.submission.proofs.wakeups_have_room.Goals as goal
+
+pub loop-j-init : goal.loop-j-init
+loop-j-init c =
+    let count = c.args.s.count in
+    let all : count - 0 ≡ count = omega arith in
+    (omega arith, omega arith, rw all)
+
+pub bounds-nodes-j : goal.bounds-nodes-j
+bounds-nodes-j c = omega arith
+
+pub returns-then-fill_woken-gt-BYTES_PER_QUEUE : goal.returns-then-fill_woken-gt-BYTES_PER_QUEUE
+returns-then-fill_woken-gt-BYTES_PER_QUEUE c =
+    let l = c.loop-j in
+    let a = c.args in
+    sym (room_bad a.s.nodes a.k a.u l.j a.s.count (omega arith) (rw (← c.fill_woken.ensures) c.if-fill_woken-gt-BYTES_PER_QUEUE.true)) ∙ l.invariant.2
+
+pub loop-j-preserved : goal.loop-j-preserved
+loop-j-preserved c =
+    let l = c.loop-j in
+    let a = c.args in
+    (omega arith, omega arith, rw (add-one l.j) (sym (room-good a.s.nodes a.k a.u l.j a.s.count (omega arith) (rw (← c.fill_woken.ensures) c.if-fill_woken-gt-BYTES_PER_QUEUE.false)) ∙ l.invariant.2))
+
+pub returns : goal.returns
+returns c =
+    let l = c.loop-j in
+    let a = c.args in
+    sym (room-end a.s.nodes a.k a.u l.j a.s.count (omega arith)) ∙ l.invariant.2
