@@ -15,6 +15,9 @@ use std::io::{Read, Stderr, Stdout, Write};
 // One byte more than a stream may have: a longer file fills it.
 const BUFFER_LENGTH: usize = 65537;
 
+// Room for any path.
+const PATH_LENGTH: usize = 4096;
+
 // Room for what the system calls an error.
 const WORDS_LENGTH: usize = 128;
 
@@ -145,7 +148,7 @@ fn main(rt: HostRuntime) {
         write(rt.stderr(), b"usage: decode FILE\n");
         return;
     }
-    let mut path = [0u8; 4096];
+    let mut path = [0u8; PATH_LENGTH];
     match rt.arg(1, &mut path) {
         Ok(n) => decode(rt, &path[..n]),
         Err(_) => say(rt.stderr(), b"FILE", b"File name too long"),

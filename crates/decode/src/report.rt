@@ -138,7 +138,9 @@ fn status(out: Stdout, at: usize, status: u8) {
 pub(crate) fn operation(out: Stdout, at: usize, op: Operation, data: &[u8]) {
     match op {
         Operation::FormatError { n } => format_error(out, at, n, data),
-        Operation::CanTransmit { id, ide, rtr, dl } => can_transmit(out, at, id, ide, rtr, dl, data),
+        Operation::CanTransmit { id, ide, rtr, dl } => can_transmit(
+            out, at, id, ide, rtr, dl, data,
+        ),
         Operation::FdTransmit {
             id,
             ide,
