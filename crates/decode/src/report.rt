@@ -3,6 +3,7 @@
 use crate::names;
 use lines::Line;
 use operation::Operation;
+use std::io::Stdout;
 
 const POSITION_WIDTH: usize = 6;
 
@@ -21,21 +22,21 @@ const CONFIGURATION_KIND_END: usize = 58;
 const FAULT_END: usize = 53;
 
 // Position and kind.
-fn start(at: usize, kind: &[u8]) -> Line {
-    Line::new()
+fn start(out: Stdout, at: usize, kind: &[u8]) -> Line {
+    Line::new(out)
         .decimal(at as u64, POSITION_WIDTH)
         .column(KIND_COLUMN)
         .text(kind)
 }
 
 // The same, ready for a first field.
-fn fields(at: usize, kind: &[u8]) -> Line {
-    start(at, kind).column(FIELDS_COLUMN)
+fn fields(out: Stdout, at: usize, kind: &[u8]) -> Line {
+    start(out, at, kind).column(FIELDS_COLUMN)
 }
 
 // A Transmit up to Ide. The ID is as candump shows it: three digits for Ide 0, at the end of the columns of eight for Ide 1.
-fn transmit(at: usize, kind: &[u8], id: u32, ide: u8) -> Line {
-    let line = fields(at, kind).name(b"ID");
+fn transmit(out: Stdout, at: usize, kind: &[u8], id: u32, ide: u8) -> Line {
+    let line = fields(out, at, kind).name(b"ID");
     if ide == 0 {
         line.text(b"     ").hex12(id).number(b"Ide", 0, 1)
     } else {
@@ -44,27 +45,27 @@ fn transmit(at: usize, kind: &[u8], id: u32, ide: u8) -> Line {
 }
 
 // An operation up to an ID that comes without Ide.
-fn identified(at: usize, kind: &[u8], id: u32) -> Line {
-    fields(at, kind).name(b"ID").hex32(id)
+fn identified(out: Stdout, at: usize, kind: &[u8], id: u32) -> Line {
+    fields(out, at, kind).name(b"ID").hex32(id)
 }
 
-fn format_error(at: usize, n: u16, data: &[u8]) {
-    fields(at, b"Format Error")
+fn format_error(out: Stdout, at: usize, n: u16, data: &[u8]) {
+    fields(out, at, b"Format Error")
         .number(b"n", n as u32, 1)
         .bytes(data)
         .end();
 }
 
-fn can_transmit(at: usize, id: u32, ide: u8, rtr: u8, dl: u16, data: &[u8]) {
-    transmit(at, b"CAN Transmit", id, ide)
+fn can_transmit(out: Stdout, at: usize, id: u32, ide: u8, rtr: u8, dl: u16, data: &[u8]) {
+    transmit(out, at, b"CAN Transmit", id, ide)
         .number(b"Rtr", rtr as u32, 1)
         .number(b"DL", dl as u32, 1)
         .bytes(data)
         .end();
 }
 
-fn fd_transmit(at: usize, id: u32, ide: u8, brs: u8, esi: u8, dl: u16, data: &[u8]) {
-    transmit(at, b"CAN FD Transmit", id, ide)
+fn fd_transmit(out: Stdout, at: usize, id: u32, ide: u8, brs: u8, esi: u8, dl: u16, data: &[u8]) {
+    transmit(out, at, b"CAN FD Transmit", id, ide)
         .number(b"Brs", brs as u32, 1)
         .number(b"Esi", esi as u32, 1)
         .number(b"DL", dl as u32, 2)
@@ -73,6 +74,7 @@ fn fd_transmit(at: usize, id: u32, ide: u8, brs: u8, esi: u8, dl: u16, data: &[u
 }
 
 fn xl_transmit(
+    out: Stdout,
     at: usize,
     id: u32,
     ide: u8,
@@ -83,7 +85,7 @@ fn xl_transmit(
     dl: u16,
     data: &[u8],
 ) {
-    transmit(at, b"CAN XL Transmit", id, ide)
+    transmit(out, at, b"CAN XL Transmit", id, ide)
         .number(b"Sec", sec as u32, 1)
         .name(b"SDT")
         .text(b"0x")
@@ -99,8 +101,8 @@ fn xl_transmit(
         .end();
 }
 
-fn bus_error(at: usize, id: u32, code: u8, flag: u8, sender: u8) {
-    let line = identified(at, b"Bus Error", id)
+fn bus_error(out: Stdout, at: usize, id: u32, code: u8, flag: u8, sender: u8) {
+    let line = identified(out, at, b"Bus Error", id)
         .number(b"Error Code", code as u32, 1)
         .text(b" ");
     let line = names::error_code(line, code)
@@ -113,8 +115,8 @@ fn bus_error(at: usize, id: u32, code: u8, flag: u8, sender: u8) {
         .end();
 }
 
-fn configuration(at: usize, kind: u8, value: u32) {
-    let line = fields(at, b"Configuration")
+fn configuration(out: Stdout, at: usize, kind: u8, value: u32) {
+    let line = fields(out, at, b"Configuration")
         .number(b"kind", kind as u32, 1)
         .text(b" ");
     let line = names::configuration_kind(line, kind).column(CONFIGURATION_KIND_END);
@@ -125,25 +127,27 @@ fn configuration(at: usize, kind: u8, value: u32) {
     }
 }
 
-fn status(at: usize, status: u8) {
-    let line = fields(at, b"Status")
+fn status(out: Stdout, at: usize, status: u8) {
+    let line = fields(out, at, b"Status")
         .number(b"status", status as u32, 1)
         .text(b" ");
     names::status(line, status).end();
 }
 
 // The operation at a position, with its data.
-pub(crate) fn operation(at: usize, op: Operation, data: &[u8]) {
+pub(crate) fn operation(out: Stdout, at: usize, op: Operation, data: &[u8]) {
     match op {
-        Operation::FormatError { n } => format_error(at, n, data),
-        Operation::CanTransmit { id, ide, rtr, dl } => can_transmit(at, id, ide, rtr, dl, data),
+        Operation::FormatError { n } => format_error(out, at, n, data),
+        Operation::CanTransmit { id, ide, rtr, dl } => can_transmit(
+            out, at, id, ide, rtr, dl, data,
+        ),
         Operation::FdTransmit {
             id,
             ide,
             brs,
             esi,
             dl,
-        } => fd_transmit(at, id, ide, brs, esi, dl, data),
+        } => fd_transmit(out, at, id, ide, brs, esi, dl, data),
         Operation::XlTransmit {
             id,
             ide,
@@ -152,24 +156,24 @@ pub(crate) fn operation(at: usize, op: Operation, data: &[u8]) {
             vcid,
             af,
             dl,
-        } => xl_transmit(at, id, ide, sec, sdt, vcid, af, dl, data),
-        Operation::Confirm { id } => identified(at, b"Confirm", id).end(),
-        Operation::ArbitrationLost { id } => identified(at, b"Arbitration Lost", id).end(),
+        } => xl_transmit(out, at, id, ide, sec, sdt, vcid, af, dl, data),
+        Operation::Confirm { id } => identified(out, at, b"Confirm", id).end(),
+        Operation::ArbitrationLost { id } => identified(out, at, b"Arbitration Lost", id).end(),
         Operation::BusError {
             id,
             error_code,
             error_flag,
             is_sender,
-        } => bus_error(at, id, error_code, error_flag, is_sender),
-        Operation::Configuration { kind, value } => configuration(at, kind, value),
-        Operation::Status { status: value } => status(at, value),
-        Operation::Wakeup => start(at, b"Wakeup").end(),
+        } => bus_error(out, at, id, error_code, error_flag, is_sender),
+        Operation::Configuration { kind, value } => configuration(out, at, kind, value),
+        Operation::Status { status: value } => status(out, at, value),
+        Operation::Wakeup => start(out, at, b"Wakeup").end(),
     }
 }
 
 // The fault at a position, with its bytes.
-pub(crate) fn fault(at: usize, number: u8, bytes: &[u8]) {
-    let line = start(at, b"fault")
+pub(crate) fn fault(out: Stdout, at: usize, number: u8, bytes: &[u8]) {
+    let line = start(out, at, b"fault")
         .text(b" ")
         .decimal(number as u64, 1)
         .column(FIELDS_COLUMN)

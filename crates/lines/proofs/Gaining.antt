@@ -1,12 +1,12 @@
 -- Laws of what a line gains: a byte, and bytes behind bytes.
 -- Assumes nothing.
-use mathlib.Core.Path.{◌≡◌, refl, sym, ◌∙◌}
-use mathlib.Core.List.{List, [], ◌∷◌, ◌++◌, map}
+use mathlib.Core.Path.{◌≡◌, refl}
+use mathlib.Core.List.{List, [], ◌∷◌, ◌++◌}
 use Prim.Native.Nat.{ℕ, ◌+◌, ◌≤◌, ◌<◌}
 use native.Mathlib.Numerals.{add-one}
 use native.Mathlib.Omega.{arith}
 use borrow.Author.Tests.{lt-ltb, le-ltb}
-use lib.ListN.{length, set, length-append, length-map}
+use lib.ListN.{length, set, length-append}
 use lib.Seq.{take-suc-set}
 use Rattle.lines.specs.declared.Line.{Line}
 use Rattle.lines.specs.Text.{space, after, after_all, Gains}
@@ -24,13 +24,9 @@ gains_then {xs} {ys} g h = record { gained = λ text held. rw (after-append text
 pub gains_as : {a b : Line} {xs ys : List ℕ} → Gains a b xs → xs ≡ ys → Gains a b ys
 gains_as g e = rw e at g
 
--- the array of a line that a function is called with, or is given, has its length
-pub has_room_lem : (line : Line) → length (map (λ (x : ℕ). x) line.text) ≡ space → length line.text ≡ space
-has_room_lem line h = sym (length-map line.text (λ (x : ℕ). x)) ∙ h
-
 -- a byte stored behind what a line holds, and at the front of a full one
 module _ (line : Line) (byte : ℕ) (room : length line.text ≡ space) where
-  pub put_behind : line.length < space → Gains line (record { text = set line.text line.length byte; length = line.length + 1 }) (byte ∷ [])
+  pub put_behind : line.length < space → Gains line (record { out = line.out; text = set line.text line.length byte; length = line.length + 1 }) (byte ∷ [])
   unfolding after
   put_behind h = record {
     gained = λ text held.
@@ -42,7 +38,7 @@ module _ (line : Line) (byte : ℕ) (room : length line.text ≡ space) where
         });
   }
 
-  pub put_first : space ≤ line.length → Gains line (record { text = set line.text 0 byte; length = 0 + 1 }) (byte ∷ [])
+  pub put_first : space ≤ line.length → Gains line (record { out = line.out; text = set line.text 0 byte; length = 0 + 1 }) (byte ∷ [])
   unfolding after
   put_first h = record {
     gained = λ text held.

@@ -4,12 +4,13 @@
 ghost use Rattle.std.specs.Prelude.{◌≡◌, [], ◌∷◌, ◌-◌, ◌≤◌, ◌<◌};
 ghost use Rattle.lines.specs.Text.{space, Holds, Gains, blanks, hex_digit, hex_digits, apart, hex_bytes, field, named, GainsNumber};
 
-use libc::STDOUT_FILENO;
+use std::io::Stdout;
 
 const SPACE: usize = 512;
 
 #[derive(Drop)]
 pub struct Line {
+    out: Stdout,
     text: [u8; SPACE],
     length: usize,
 }
@@ -22,16 +23,17 @@ fn digit(d: u8) -> u8
     if d < 10 { b'0' + d } else { b'A' - 10 + d }
 }
 
-// The one function that writes. That it does, and where, no contract can say.
-fn write(text: &[u8]) {
-    io::write_all(STDOUT_FILENO, text);
+// The one function that writes. That it does, and where, no contract can say. What a failed write leaves out is not written again.
+fn write(out: Stdout, text: &[u8]) {
+    let _ = out.write_all(text);
 }
 
 impl Line {
-    pub fn new() -> Self
+    pub fn new(out: Stdout) -> Self
         ensures { Holds result [] }
     {
         Line {
+            out,
             text: [0; SPACE],
             length: 0,
         }
@@ -42,14 +44,16 @@ impl Line {
         ensures length_le_space { result.length ≤ space }
         ensures gains { Gains self result (byte ∷ []) }
     {
+        let out = self.out;
         let mut text = self.text;
         let mut at = self.length;
         if SPACE <= at {
-            write(&text);
+            write(out, &text);
             at = 0;
         }
         text[at] = byte;
         Line {
+            out,
             text,
             length: at + 1,
         }
@@ -173,6 +177,6 @@ impl Line {
         let line = self.put(b'\n');
         let text = line.text;
         let n = line.length;
-        write(&text[..n]);
+        write(line.out, &text[..n]);
     }
 }

@@ -6,6 +6,7 @@ use bus_state::State;
 use lines::Line;
 use owned_slots::Owned;
 use slots::Slot;
+use std::io::Stdout;
 
 // W1: ID 15, data AA BB.
 const W1: [u8; 18] = [
@@ -53,26 +54,26 @@ fn round(k: Kept, payload: &mut [u8], queues: &mut [u8]) -> Kept {
 }
 
 // Collects a node's queue and writes it.
-fn write_queue(k: Kept, payload: &[u8], queues: &[u8], node: u32) -> Kept {
-    let mut buffer = io::buffer();
+fn write_queue(out: Stdout, k: Kept, payload: &[u8], queues: &[u8], node: u32) -> Kept {
+    let mut buffer = [0u8; 4096];
     let slots = k.slots;
     let answer = owned_slots::collect(k.state, slots, payload, queues, node, &mut buffer);
     let n = answer.length as usize;
     if n <= 4096 {
-        Line::new().hex(&buffer[..n]).end();
+        Line::new(out).hex(&buffer[..n]).end();
     }
     let state = answer.state;
     Kept { state, slots }
 }
 
-fn write_queues(k: Kept, payload: &[u8], queues: &[u8]) {
-    let k = write_queue(k, payload, queues, 0);
-    let k = write_queue(k, payload, queues, 1);
-    write_queue(k, payload, queues, 2);
+fn write_queues(out: Stdout, k: Kept, payload: &[u8], queues: &[u8]) {
+    let k = write_queue(out, k, payload, queues, 0);
+    let k = write_queue(out, k, payload, queues, 1);
+    write_queue(out, k, payload, queues, 2);
 }
 
 // Node 0 submits W1, node 1, which discards, ID 16; one round.
-fn play_w5() {
+fn play_w5(out: Stdout) {
     let mut payload = [0u8; 65536];
     let mut queues = [0u8; 32768];
     let k = start(&payload, &queues);
@@ -80,11 +81,11 @@ fn play_w5() {
     let k = submit(k, &mut payload, &mut queues, 1, &DISCARD);
     let k = submit(k, &mut payload, &mut queues, 1, &ID_16);
     let k = round(k, &mut payload, &mut queues);
-    write_queues(k, &payload, &queues);
+    write_queues(out, k, &payload, &queues);
 }
 
 // The same with node 1 buffering, and a second round.
-fn play_w6() {
+fn play_w6(out: Stdout) {
     let mut payload = [0u8; 65536];
     let mut queues = [0u8; 32768];
     let k = start(&payload, &queues);
@@ -92,10 +93,10 @@ fn play_w6() {
     let k = submit(k, &mut payload, &mut queues, 1, &ID_16);
     let k = round(k, &mut payload, &mut queues);
     let k = round(k, &mut payload, &mut queues);
-    write_queues(k, &payload, &queues);
+    write_queues(out, k, &payload, &queues);
 }
 
-fn main() {
-    play_w5();
-    play_w6();
+fn main(rt: HostRuntime) {
+    play_w5(rt.stdout());
+    play_w6(rt.stdout());
 }
