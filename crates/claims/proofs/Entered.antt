@@ -1,16 +1,16 @@
 -- What a call knows of its parameters on entry: a state by value and lent slots are of their types. The slots are seen behind their reference, which
 -- an update of ghost state opens and closes before the call runs.
---     sees-mut, sees-shr    the slots behind a `&mut [Slot]`, and behind a `&[Slot]`
+--     sees_mut, sees_shr    the slots behind a `&mut [Slot]`, and behind a `&[Slot]`
 --     state-and-slots       the state and the slots that three calls have as their first parameters
---     sixth-bytes           the bytes of the buffer that kf_submit is given
---     first-is, first-bytes    a first parameter by value, and the bytes of one that is a `&[u8]`
+--     sixth_bytes           the bytes of the buffer that kf_submit is given
+--     first_is, first-bytes    a first parameter by value, and the bytes of one that is a `&[u8]`
 -- Assumes `Logic`.
 use Prim.Native.Nat.{ℕ, zero, suc}
 use mathlib.Core.Path.{◌≡◌, refl}
 use mathlib.Core.Bool.{true}
 use mathlib.Core.List.{List, [], ◌∷◌}
 use seplogic.Ra.Ura.{Ura}
-use seplogic.Ra.TreeShare.{full_share}
+use base.Fraction.{full_share}
 use mir.Syntax.{Lifetime, w8}
 use mir.Val.{Val}
 use base.Logic.{SProp, ent, sep, guard_i}
@@ -20,7 +20,8 @@ use contract.Monad.{fact, fact_use}
 use types.Kit.{Item, Goal, Seq, ‵, raw, given, ◌⊛◌, later, ◌$◌, ◌∵◌, !, qed, move, use1, use2, split, join, fsplit, fjoin, learn, frame, await, updating, now as at_once, done}
 use denote.RattleType.{RattleType, Denots, Valss, owns}
 use denote.Builtin.{u8}
-use denote.Plain.{uint_vals, uint_Tells, uint_copy}
+use denote.Copied.{uint_Copied}
+use denote.Struct.Laws.{copied}
 use denote.Laws.{Is, shows}
 use denote.Memory.{part_of}
 use denote.Ref.{Bor, MutBor}
@@ -32,7 +33,7 @@ use denote.Triple.Walked.{says}
 use Rattle.operation.specs.Number.{Bytes}
 use Rattle.slots.specs.declared.Slot.{Slot}
 use Rattle.slots.specs.contracts.Slot as T
-use Rattle.lent_slots.proofs.Element.{looks_slots}
+use Rattle.slots.proofs.Slot.TheLaws as T'
 use Rattle.bus_state.specs.declared.State.{State}
 use Rattle.bus_state.specs.contracts.State as St
 use Rattle.bus_state.specs.Memory.{held, lent_well}
@@ -71,16 +72,20 @@ module _ {M : Type 1} {𝓤 : Ura M} (𝓛 : Logic 𝓤) (ℓ : Lifetime) (κ : 
       says ! (row_typed full_share x.now x.ref_ptr.0 x.ref_ptr.1 g) $
       fjoin ! $ pure_i ! (mut_slice_at T.the_row x vs) (tt, (tt, tt)) p $ fjoin ! $ done !))
 
+module _ {M : Type 1} {𝓤 : Ura M} (𝓛 : Logic 𝓤) (ℓ : Lifetime) (κ : Lft) (q : Share) (x : Bor
+    (List Slot)) (vs : List Val) where
+  open 𝓛 use {H, A}
+
   pub sees_shr : ent 𝓤 (sep 𝓤 (sem 𝓛 ((ShrSlice ℓ κ T.the_row).own_val x vs)) (A.lft κ q))
       (H.⇛ (sep 𝓤 (sep 𝓤 (sem 𝓛 ((ShrSlice ℓ κ T.the_row).own_val x vs)) (A.lft κ q)) (fact 𝓤 (TypedSlots x.now))))
   sees_shr =
       qed 𝓛 (‵ ((ShrSlice ℓ κ T.the_row).own_val x vs) ∷ ‵ (flft κ q) ∷ []) ∵ updating ! $ fsplit ! $ pure_l ! (shr_slice_at T.the_row x vs)
-      (λ p. fsplit ! $ move ! (1 ∷ 2 ∷ []) $
-      looks_slots ! tt x.now x.ref_ptr.0 x.ref_ptr.1 (λ q'.
+      (λ p.
+      looks_slice ! tt T.the_row (copied T.the_type T'.the_copy 𝓛) x.now x.ref_ptr.0 x.ref_ptr.1 (λ q'.
       shows_of ! (row T.the_row q' x.now x.ref_ptr.0 x.ref_ptr.1) (λ g.
       shuts_slice ! tt T.the_row q' x.now x.ref_ptr.0 x.ref_ptr.1 $ at_once ! $
       says ! (row_typed q' x.now x.ref_ptr.0 x.ref_ptr.1 g) $
-      move ! (2 ∷ 1 ∷ []) $ fjoin ! $ pure_i ! (shr_slice_at T.the_row x vs) (tt, (tt, tt)) p $ fjoin ! $ done !)))
+      move ! (1 ∷ []) $ pure_i ! (shr_slice_at T.the_row x vs) (tt, (tt, tt)) p $ fjoin ! $ done !)))
 
 -- a memory with this state and these slots is typed, where the lent memory has its sizes
 abbrev pub OfTypes : State → List Slot → Type 0
@@ -95,14 +100,14 @@ module _ {M : Type 1} {𝓤 : Ura M} (𝓛 : Logic 𝓤) (R : RattleType) (κ : 
   abbrev Entry : SProp 𝓤
   Entry = sep 𝓤 (sep 𝓤 (A.lft κ q) ts) (sem 𝓛 (owns (St.the_row ∷ R ∷ Rs) (s, (y, a)) (us, (vs, vss))))
 
-  pub state-and-slots : ent 𝓤 (sep 𝓤 (sem 𝓛 (R.own y vs)) (A.lft κ q)) (H.⇛ (sep 𝓤 (sep 𝓤 (sem 𝓛 (R.own y vs))
+  pub state-and-slots : ent 𝓤 (sep 𝓤 (sem 𝓛 (R.own_val y vs)) (A.lft κ q)) (H.⇛ (sep 𝓤 (sep 𝓤 (sem 𝓛 (R.own_val y vs))
       (A.lft κ q)) (fact 𝓤 (TypedSlots ys))))
       → ent 𝓤 Entry (H.⇛ (sep 𝓤 Entry (fact 𝓤 (OfTypes s ys))))
   state-and-slots sees =
       qed 𝓛 ((‵ (flft κ q) ⊛ raw ts) ∷ ‵ (owns (St.the_row ∷ R ∷ Rs) (s, (y, a)) (us, (vs, vss))) ∷ []) ∵ updating ! $ split ! $
       move ! (2 ∷ []) $ fsplit ! $
       peeks ! St.the_row (Is St.the_row) (shows 𝓛 St.the_row) s us (λ is. move ! (1 ∷ []) $ fsplit ! $ move ! (0 ∷ 3 ∷ []) $
-      use2 𝓛 (later ((‵ (R.own y vs) ⊛ ‵ (flft κ q)) ⊛ raw (fact 𝓤 (TypedSlots ys)))) sees $ await ! tt $ split ! $ move ! (1 ∷ []) $
+      use2 𝓛 (later ((‵ (R.own_val y vs) ⊛ ‵ (flft κ q)) ⊛ raw (fact 𝓤 (TypedSlots ys)))) sees $ await ! tt $ split ! $ move ! (1 ∷ []) $
       heard ! (TypedSlots ys) (λ h.
       split ! $ at_once ! $ says ! (λ ps qs. memory-typed s us ys ps qs is h) $ move ! (1 ∷ 4 ∷ []) $ join ! $ frame ! $ fjoin ! $
       move ! (1 ∷ 0 ∷ []) $ fjoin ! $ done !))
@@ -133,14 +138,12 @@ module _ {M : Type 1} {𝓤 : Ura M} (𝓛 : Logic 𝓤) (ℓ : Lifetime) (κ : 
   sees_bytes : ent 𝓤 (sep 𝓤 (sem 𝓛 ((ShrSlice ℓ κ u8).own_val x vs)) (A.lft κ q))
       (H.⇛ (sep 𝓤 (sep 𝓤 (sem 𝓛 ((ShrSlice ℓ κ u8).own_val x vs)) (A.lft κ q)) (fact 𝓤 (Bytes x.now))))
   sees_bytes =
-      qed 𝓛 (‵ ((ShrSlice ℓ κ u8).own_val x vs) ∷ ‵ (flft κ q) ∷ []) ∵ updating ! $ fsplit ! $ pure_l ! (shr_slice_at u8 x vs) (λ p. fsplit ! $
-      move ! (1 ∷ 2 ∷ []) $
-      looks_slice ! tt u8 (Is u8) (shows 𝓛 u8) (uint_vals w8) (uint_Tells w8) (uint_copy 𝓛 w8) x.now x.ref_ptr.0 x.ref_ptr.1
-      (λ q'.
+      qed 𝓛 (‵ ((ShrSlice ℓ κ u8).own_val x vs) ∷ ‵ (flft κ q) ∷ []) ∵ updating ! $ fsplit ! $ pure_l ! (shr_slice_at u8 x vs) (λ p.
+      looks_slice ! tt u8 (uint_Copied 𝓛 w8) x.now x.ref_ptr.0 x.ref_ptr.1 (λ q'.
       shows_of ! (row u8 q' x.now x.ref_ptr.0 x.ref_ptr.1) (λ g.
       shuts_slice ! tt u8 q' x.now x.ref_ptr.0 x.ref_ptr.1 $ at_once ! $
       says ! (row_bytes q' x.now x.ref_ptr.0 x.ref_ptr.1 g) $
-      move ! (2 ∷ 1 ∷ []) $ fjoin ! $ pure_i ! (shr_slice_at u8 x vs) (tt, (tt, tt)) p $ fjoin ! $ done !)))
+      move ! (1 ∷ []) $ pure_i ! (shr_slice_at u8 x vs) (tt, (tt, tt)) p $ fjoin ! $ done !)))
 
 -- a `&[u8]` as the sixth parameter, with the fourth lifetime
 module _ {M : Type 1} {𝓤 : Ura M} (𝓛 : Logic 𝓤) (t₀ t₁ t₂ ts : SProp 𝓤) (κ : Lft) (q : Share)

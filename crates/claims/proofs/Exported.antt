@@ -6,9 +6,9 @@ use mathlib.Core.List.{List, [], ◌∷◌}
 use seplogic.Ra.Ura.{Ura}
 use base.Logic.{SProp, ent, sep, emp, id⊢, via, fst∗, emp∗, mono_r}
 use prog.Model.{Model}
-use prog.Routine.{Routine}
+use prog.Wired.{Code, Wired}
 use contract.Lifetimes.{Lfts, Shares, toks}
-use mir.Syntax.{named}
+use mir.Syntax.{Callee, named}
 use denote.RattleType.{RattleType}
 use denote.Signature.{types_at}
 use denote.Builtin.{u8, u32, usize}
@@ -77,13 +77,13 @@ others [] = []
 others (R ∷ []) = []
 others (R ∷ R' ∷ Rs) = Rs
 
-module _ (M : Type 1) (T : Ended) (ρ : Routine) where
+module _ (M : Type 1) (T : Ended) (code : Code) (name : Callee) where
   -- what follows from a statement that holds
-  follows : (F P : Statement T) → Holds M T ρ F
+  follows : (F P : Statement T) → Holds M T code name F
       → ((κs : Lfts T.signature.lifetimes) (a : Args T.signature κs) (r : Res T.signature κs) (e : AtExit T κs)
       → F κs a r e → P κs a r e)
-      → Holds M T ρ P
-  follows F P met h 𝓤 𝓛 𝓜 𝓡 =
+      → Holds M T code name P
+  follows F P met h 𝓤 𝓛 𝓜 𝓡 w =
       weaken 𝓛 T (λ κs a. record {
         ghost = Unit {0};
         requires = λ g. emp 𝓤;
@@ -92,13 +92,14 @@ module _ (M : Type 1) (T : Ended) (ρ : Routine) where
       })
       (λ κs a g r e. fact 𝓤 (P κs a r e)) (λ κs a g r ws. fact_mono 𝓤 (F κs a r (at_exit T κs a ws)) (P κs a r (at_exit T κs a ws))
       (h κs a r (at_exit T κs a ws)))
-      (𝓡.run ρ) (routine_mono 𝓤 𝓛.H 𝓜 𝓡 ρ) (met 𝓤 𝓛 𝓜 𝓡)
+      (𝓡.run (𝓡.env name)) (routine_mono 𝓤 𝓛.H 𝓜 𝓡 (𝓡.env name)) (met 𝓤 𝓛 𝓜 𝓡 w)
 
   -- the same of a contract with two clauses
   abbrev HoldBoth : Statement T → Statement T → Type 2
   HoldBoth F G =
       (𝓤 : Ura M) (𝓛 : Logic 𝓤) (𝓜 : Model 𝓤 𝓛.H) (𝓡 : Running 𝓤 𝓛.H 𝓜)
-      → Meets 𝓛 T.signature (𝓡.run ρ)
+      → Wired 𝓡.env code
+      → Meets 𝓛 T.signature (𝓡.run (𝓡.env name))
       (closing 𝓛 T (λ κs a. record {
         ghost = Unit {0};
         requires = λ g. emp 𝓤;
@@ -108,24 +109,24 @@ module _ (M : Type 1) (T : Ended) (ρ : Routine) where
   follows_both : (F G P : Statement T) → HoldBoth F G
       → ((κs : Lfts T.signature.lifetimes) (a : Args T.signature κs) (r : Res T.signature κs) (e : AtExit T κs)
       → F κs a r e → G κs a r e → P κs a r e)
-      → Holds M T ρ P
-  follows_both F G P met h 𝓤 𝓛 𝓜 𝓡 =
+      → Holds M T code name P
+  follows_both F G P met h 𝓤 𝓛 𝓜 𝓡 w =
       weaken 𝓛 T
       (λ κs a. record { ghost = Unit {0}; requires = λ g. emp 𝓤; ensures = λ g r e. sep 𝓤 (fact 𝓤 (F κs a r e)) (fact 𝓤 (G κs a r e)) })
       (λ κs a g r e. fact 𝓤 (P κs a r e)) (λ κs a g r ws. needs 𝓤 _ _ (λ y. fact_mono 𝓤 _ _ (λ x. h κs a r (at_exit T κs a ws) x y)))
-      (𝓡.run ρ) (routine_mono 𝓤 𝓛.H 𝓜 𝓡 ρ) (met 𝓤 𝓛 𝓜 𝓡)
+      (𝓡.run (𝓡.env name)) (routine_mono 𝓤 𝓛.H 𝓜 𝓡 (𝓡.env name)) (met 𝓤 𝓛 𝓜 𝓡 w)
 
-module _ (M : Type 1) (T : Ended) (ρ : Routine) (Φ : (κs : Lfts T.signature.lifetimes) → Args T.signature κs → Type 0)
+module _ (M : Type 1) (T : Ended) (code : Code) (name : Callee) (Φ : (κs : Lfts T.signature.lifetimes) → Args T.signature κs → Type 0)
     (learns : (𝓤 : Ura M) (𝓛 : Logic 𝓤) (κs : Lfts T.signature.lifetimes) (qs : Shares
     T.signature.lifetimes) (a : Args T.signature κs) (vss : Vals T.signature κs)
     → ent 𝓤 (on_entry 𝓛 T.signature κs qs a vss) (𝓛.H.⇛ (sep 𝓤 (on_entry 𝓛 T.signature κs qs a vss) (fact 𝓤 (Φ κs a))))) where
   -- a fact that the parameters show on entry is in hand
-  entered : (P : Statement T) → Holds M T ρ (λ κs a r e. Φ κs a → P κs a r e) → Holds M T ρ P
-  entered P met 𝓤 𝓛 𝓜 𝓡 y =
+  entered : (P : Statement T) → Holds M T code name (λ κs a r e. Φ κs a → P κs a r e) → Holds M T code name P
+  entered P met 𝓤 𝓛 𝓜 𝓡 w y =
       let A = 𝓛.A in
       let E : SProp 𝓤 = on_entry 𝓛 T.signature y.0.0 y.0.1 y.0.3 y.0.4 in
       let φ : Type 0 = Φ y.0.0 y.0.3 in
-      let under : Meets 𝓛 T.signature (𝓡.run ρ) (closing 𝓛 T (λ κs a. record {
+      let under : Meets 𝓛 T.signature (𝓡.run (𝓡.env name)) (closing 𝓛 T (λ κs a. record {
         ghost = Unit {0};
         requires = λ g. fact 𝓤
             (Φ κs a);
@@ -137,92 +138,93 @@ module _ (M : Type 1) (T : Ended) (ρ : Routine) (Φ : (κs : Lfts T.signature.l
       (λ κs a g. g) (λ κs a g. Φ κs a) (λ κs a g. id⊢ 𝓤 (fact 𝓤 (Φ κs a)))
       (λ κs a g h. via 𝓤 (sep 𝓤 (emp 𝓤) (fact 𝓤 (Φ κs a))) (emp∗ 𝓤 (fact 𝓤 (Φ κs a))) (fst∗ 𝓤 (emp 𝓤) (fact 𝓤 (Φ κs a))))
       (λ κs a g h r ws. mono_r 𝓤 (sem 𝓛 (lasts T κs a ws)) (fact_mono 𝓤 _ _ (λ f. f h)))
-      (𝓡.run ρ) (routine_mono 𝓤 𝓛.H 𝓜 𝓡 ρ) (met 𝓤 𝓛 𝓜 𝓡) in
+      (𝓡.run (𝓡.env name)) (routine_mono 𝓤 𝓛.H 𝓜 𝓡 (𝓡.env name)) (met 𝓤 𝓛 𝓜 𝓡 w) in
       via 𝓤 E (fst∗ 𝓤 E (emp 𝓤))
       (via 𝓤 (𝓛.H.⇛ (sep 𝓤 E (fact 𝓤 φ))) (learns 𝓤 𝓛 y.0.0 y.0.1 y.0.3 y.0.4)
-      (via 𝓤 (𝓛.H.⇛ (𝓡.run ρ _ _)) (𝓛.laws.⇛_mono _ _ (under (y.0, tt))) (run_Enters 𝓤 𝓛.H 𝓜 𝓡 ρ _ _)))
+      (via 𝓤 (𝓛.H.⇛ (𝓡.run (𝓡.env name) _ _)) (𝓛.laws.⇛_mono _ _ (under (y.0, tt))) (run_Enters 𝓤 𝓛.H 𝓜 𝓡 (𝓡.env name) _ _)))
 
 module _ {M : Type 1} where
-  start-holds : Holds M kf-start.ended start-code.routine Start
+  start-holds : Holds M kf-start.ended start-code.code start-code.name Start
   start-holds =
-      follows M kf-start.ended start-code.routine _ Start start-thm.met
+      follows M kf-start.ended start-code.code start-code.name _ Start start-thm.met
       (λ κs a r e f. started _ _ _ _ (left r e.0.now a.1.0.now a.1.1.0.now) f)
 
-  submit-holds : Holds M kf-submit.ended submit-code.routine Submit
+  submit-holds : Holds M kf-submit.ended submit-code.code submit-code.name Submit
   unfolding left_by given_by
   submit-holds =
-      entered M kf-submit.ended submit-code.routine (λ κs a. Bytes a.1.1.1.1.1.0.now)
+      entered M kf-submit.ended submit-code.code submit-code.name (λ κs a. Bytes a.1.1.1.1.1.0.now)
       (λ 𝓤 𝓛 κs qs a vss.
       sixth_bytes 𝓛 (𝓛.A.lft κs.0 qs.0) (𝓛.A.lft κs.1.0 qs.1.0) (𝓛.A.lft κs.1.1.0 qs.1.1.0) (emp 𝓤)
       κs.1.1.1.0 qs.1.1.1.0 St.the_row (MutSlice (named 0) κs.0 T.the_row) (MutSlice (named 1) κs.1.0 u8)
       (MutSlice (named 2) κs.1.1.0 u8) u32 [] (named 3) a vss)
       Submit
-      (entered M kf-submit.ended submit-code.routine (λ κs a. OfTypes a.0 a.1.0.now)
+      (entered M kf-submit.ended submit-code.code submit-code.name (λ κs a. OfTypes a.0 a.1.0.now)
       (λ 𝓤 𝓛 κs qs a vss.
       slots_mut 𝓛 (named 0) κs.0 qs.0 (toks 𝓛 3 κs.1 qs.1) (others (types_at (kf-submit.signature).params κs)) a vss)
       (λ κs a r e. Bytes a.1.1.1.1.1.0.now → Submit κs a r e)
-      (follows M kf-submit.ended submit-code.routine _
+      (follows M kf-submit.ended submit-code.code submit-code.name _
       (λ κs a r e. OfTypes a.0 a.1.0.now → Bytes a.1.1.1.1.1.0.now → Submit κs a r e) submit-thm.met
       (λ κs a r e f t u. (u, demanded _ _ _ _ (t _ _) f refl))))
 
-  round-holds : Holds M kf-round.ended round-code.routine Round
+  round-holds : Holds M kf-round.ended round-code.code round-code.name Round
   unfolding left_by given_by
   round-holds =
-      entered M kf-round.ended round-code.routine (λ κs a. OfTypes a.0 a.1.0.now)
+      entered M kf-round.ended round-code.code round-code.name (λ κs a. OfTypes a.0 a.1.0.now)
       (λ 𝓤 𝓛 κs qs a vss.
       slots_mut 𝓛 (named 0) κs.0 qs.0 (toks 𝓛 2 κs.1 qs.1) (others (types_at (kf-round.signature).params κs)) a vss)
       Round
-      (follows M kf-round.ended round-code.routine _ (λ κs a r e. OfTypes a.0 a.1.0.now → Round κs a r e) round-thm.met
+      (follows M kf-round.ended round-code.code round-code.name _ (λ κs a r e. OfTypes a.0 a.1.0.now → Round κs a r e) round-thm.met
       (λ κs a r e f t. demanded _ _ _ _ (t _ _) f refl))
 
-  collect-holds : Holds M kf-collect.ended collect-code.routine Collect
+  collect-holds : Holds M kf-collect.ended collect-code.code collect-code.name Collect
   unfolding left_by given_by
   collect-holds =
-      entered M kf-collect.ended collect-code.routine (λ κs a. OfTypes a.0 a.1.0.now)
+      entered M kf-collect.ended collect-code.code collect-code.name (λ κs a. OfTypes a.0 a.1.0.now)
       (λ 𝓤 𝓛 κs qs a vss.
       slots_shr 𝓛 (named 0) κs.0 qs.0 (toks 𝓛 3 κs.1 qs.1) (others (types_at (kf-collect.signature).params κs)) a vss)
       Collect
-      (follows_both M kf-collect.ended collect-code.routine _ _ (λ κs a r e. OfTypes a.0 a.1.0.now → Collect κs a r e)
+      (follows_both M kf-collect.ended collect-code.code collect-code.name _ _ (λ κs a r e. OfTypes a.0 a.1.0.now → Collect κs a r e)
       collect-thm.met
       (λ κs a r e f g t.
       let node = a.1.1.1.1.0 in
       let buffer = a.1.1.1.1.1.0.now in
       (demanded _ _ _ _ (t _ _) f (given_is _ node buffer _ _ f g), past-given _ node buffer _ _ f g)))
 
-  read-holds : Holds M kf-read.ended read-code.routine ReadAt
+  read-holds : Holds M kf-read.ended read-code.code read-code.name ReadAt
   read-holds =
-      entered M kf-read.ended read-code.routine (λ κs a. Bytes a.0.now)
+      entered M kf-read.ended read-code.code read-code.name (λ κs a. Bytes a.0.now)
       (λ 𝓤 𝓛 κs qs a vss. first-bytes 𝓛 (emp 𝓤) (usize ∷ []) (named 0) κs.0 qs.0 a vss)
       ReadAt
-      (follows M kf-read.ended read-code.routine _ (λ κs a r e. Bytes a.0.now → ReadAt κs a r e) read-thm.met
+      (follows M kf-read.ended read-code.code read-code.name _ (λ κs a r e. Bytes a.0.now → ReadAt κs a r e) read-thm.met
       (λ κs a r e f u. reads _ _ _ u f))
 
-  data_holds : Holds M kf-data.ended data-code.routine DataOf
+  data_holds : Holds M kf-data.ended data-code.code data-code.name DataOf
   data_holds = data-thm.met
 
-  write_holds : Holds M kf-write.ended write-code.routine WriteTo
+  write_holds : Holds M kf-write.ended write-code.code write-code.name WriteTo
   write_holds =
-      entered M kf-write.ended write-code.routine (λ κs a. TypedFlat a.0)
+      entered M kf-write.ended write-code.code write-code.name (λ κs a. TypedFlat a.0)
       (λ 𝓤 𝓛 κs qs a vss.
       first_is 𝓛 (toks 𝓛 2 κs qs) (ShrSlice (named 0) κs.0 u8 ∷ MutSlice (named 1) κs.1.0 u8 ∷ []) F.the_row a vss
       (TypedFlat a.0) (flat-typed a.0 vss.0))
       WriteTo
-      (follows_both M kf-write.ended write-code.routine _ _ (λ κs a r e. TypedFlat a.0 → WriteTo κs a r e) write_thm.met
+      (follows_both M kf-write.ended write-code.code write-code.name _ _ (λ κs a r e. TypedFlat a.0 → WriteTo κs a r e) write_thm.met
       (λ κs a r e f g t. wrote _ _ _ _ _ t f g))
 
-  register_new-holds : Holds M kf-register-new.ended register-new-code.routine RegisterNew
+  register_new-holds : Holds M kf-register-new.ended register-new-code.code register-new-code.name RegisterNew
   register_new-holds = register-new-thm.met
 
-  register_enter-holds : Holds M kf-register-enter.ended register-enter-code.routine RegisterEnter
+  register_enter-holds : Holds M kf-register-enter.ended register-enter-code.code register-enter-code.name RegisterEnter
   register_enter-holds =
-      follows M kf-register-enter.ended register-enter-code.routine _ RegisterEnter register-enter-thm.met
+      follows M kf-register-enter.ended register-enter-code.code register-enter-code.name _ RegisterEnter register-enter-thm.met
       (λ κs a r e f. enters _ _ _ f)
 
-  register_read-holds : Holds M kf-register-read.ended register-read-code.routine RegisterRead
+  register_read-holds : Holds M kf-register-read.ended register-read-code.code register-read-code.name RegisterRead
   register_read-holds =
-      follows M kf-register-read.ended register-read-code.routine _ RegisterRead register-read-thm.met (λ κs a r e f. closes _ _ _ f)
+      follows M kf-register-read.ended register-read-code.code register-read-code.name _ RegisterRead register-read-thm.met
+      (λ κs a r e f. closes _ _ _ f)
 
-  layout-holds : Holds M kf-layout.ended layout_code.routine Layout
+  layout-holds : Holds M kf-layout.ended layout_code.code layout_code.name Layout
   layout-holds = layout-thm.met
 
   pub exported : Exported M

@@ -1,12 +1,12 @@
 -- A memory whose state and slots are machine values of their types is `Typed`, where the lent memory has its sizes.
 -- Assumes nothing.
 use Prim.Native.Nat.{ℕ, zero, suc, ◌<◌}
-use mathlib.Core.Path.{◌≡◌, sym, ◌∙◌}
+use mathlib.Core.Path.{◌≡◌}
 use mathlib.Core.Bool.{true, ◌&&◌}
-use mathlib.Core.List.{List, [], ◌∷◌, map}
+use mathlib.Core.List.{List, [], ◌∷◌}
 use native.Mathlib.Omega.{arith}
 use lib.Dec.{eqb}
-use lib.ListN.{length, get_or, length-map}
+use lib.ListN.{length, get_or}
 use mir.Val.{Val}
 use borrow.Author.Tests.{eqb-true}
 use denote.Array.{each}
@@ -16,7 +16,6 @@ use Rattle.operation.proofs.Tests.{both}
 use Rattle.slots.specs.Slots.{free_slot}
 use Rattle.slots.specs.declared.Slot.{Slot}
 use Rattle.slots.specs.contracts.Slot as T
-use Rattle.lent_slots.proofs.Element.{Slots}
 use Rattle.bus_state.specs.Memory.{held, no_node, lent_well}
 use Rattle.bus_state.specs.declared.NodeState.{NodeState}
 use Rattle.bus_state.specs.declared.State.{State}
@@ -41,26 +40,15 @@ free_typed = record { af = omega arith; third = omega arith; fourth = omega arit
 abbrev pub TypedSlots : List Slot → Type 0
 TypedSlots ys = (p : ℕ) → TypedSlot (get_or ys p free_slot)
 
-pub each_typed : (ys : List Slot) (us : List Val) → shadow (each Slot (T.the_row).own_val ys us) → TypedSlots ys
-each_typed [] [] g p = free_typed
-each_typed [] (u ∷ us) g p = absurd g
-each_typed (y ∷ ys) [] g p = absurd g
-each_typed (y ∷ ys) (u ∷ us) g zero = slot-typed y (u ∷ []) g.0
-each_typed (y ∷ ys) (u ∷ us) g (suc p) = each_typed ys us g.1 p
-
--- of slots by value
-pub slots-typed : (ys : List Slot) (v : Val) → Is Slots ys (v ∷ []) → TypedSlots ys
-slots-typed ys v g = each_typed ys g.0 g.1.1
-
 -- ---- a state
 
 -- an array that is a field has its elements as their rows have them
 entry_at : (ds : List NodeState) (us : List Val)
-    → shadow (each (N.the_field).row.Denot (N.the_field).row.own_val (map (N.the_field).into ds) us) → (j : ℕ) → j < length ds
+    → shadow (each (N.the_row).Denot (N.the_row).own_val ds us) → (j : ℕ) → j < length ds
     → length (get_or ds j no_node).rates ≡ 3
 entry_at [] us g j l = absurd (omega (arith, l))
 entry_at (d ∷ ds) [] g j l = absurd g
-entry_at (d ∷ ds) (u ∷ us) g zero l = sym (length-map d.rates _) ∙ g.0.1.1.0.1.0.1
+entry_at (d ∷ ds) (u ∷ us) g zero l = g.0.1.1.0.1.0.1
 entry_at (d ∷ ds) (u ∷ us) g (suc j) l = entry_at ds us g.1 j (omega (arith, l))
 
 -- ---- a memory
@@ -73,7 +61,7 @@ memory-typed s vs ys ps qs g t e =
     let a = both (eqb (length ys) 32 && eqb (length ps) 65_536) (eqb (length qs) 32_768) e in
     let b = both (eqb (length ys) 32) (eqb (length ps) 65_536) a.0 in
     let nodes = g.1.1.1.1.0 in
-    let eight : length s.nodes ≡ 8 = sym (length-map s.nodes (N.the_field).into) ∙ nodes.1.0.1 in
+    let eight : length s.nodes ≡ 8 = nodes.1.0.1 in
     record {
       sized = record {
         slots = eqb-true (length ys) 32 b.0;

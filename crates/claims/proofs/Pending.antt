@@ -23,6 +23,7 @@ abbrev Known : ℕ → Frame → List Frame → Type 0
 Known now f before = Among f before ⊎ (f.accepted ≡ now)
 
 among-fresh : (now : ℕ) (f : Frame) (fs : List Frame) → AcceptedAt now fs → Among f fs → f.accepted ≡ now
+among-fresh now f [] a i = elim i [ ]
 among-fresh now f (g ∷ fs) a (inl e) = rw e a.0
 among-fresh now f (g ∷ fs) a (inr i) = among-fresh now f fs a.1 i
 
@@ -37,7 +38,9 @@ among-joined now f (g ∷ fs) added a (inr i) = go (among-joined now f fs added 
 
 among-without : (f : Frame) (i : ℕ) (fs : List Frame) → Among f (without i fs) → Among f fs
 unfolding without
+among-without f zero [] a = elim a [ ]
 among-without f zero (g ∷ fs) a = inr a
+among-without f (suc i) [] a = elim a [ ]
 among-without f (suc i) (g ∷ fs) (inl e) = inl e
 among-without f (suc i) (g ∷ fs) (inr a) = inr (among-without f i fs a)
 
@@ -48,6 +51,7 @@ unfolding stay losers
 among-stay f w j d = go (discards d) (eqb j w.owner)
   where
     go : (t u : Bool) → Among f (cond t [] (cond u (without w.position d.pending) d.pending)) → Among f d.pending
+    go true u a = elim a [ ]
     go false true a = among-without f w.position d.pending a
     go false false a = a
 
@@ -68,6 +72,7 @@ submit_either (took k buffer b' h e) = inr refl
 
 among-cleared : (f : Frame) (t : Bool) (fs : List Frame) → Among f (cond t [] fs) → Among f fs
 among-cleared f false fs a = a
+among-cleared f true fs a = elim a [ ]
 
 submit_known : (b : Bus) (k : ℕ) (buffer : List ℕ) (j : ℕ) → j < length b.nodes → (f : Frame)
     → Among f (node_at (session.call b (session.submission k buffer)).bus j).pending → Known b.round f (node_at b j).pending

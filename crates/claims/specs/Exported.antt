@@ -1,13 +1,14 @@
 -- Believed. The exported functions meet the demands, whatever they are called with: a statement a function, about its parameters, its
 -- result and what its lent memory holds when it returns. A function that did less, or asked more of its caller, would not meet it. Of the
--- toolchain's words, `now x` is what is behind a reference, `a.0`, `a.1.0` .. are the parameters in their order, `e.0` .. the same
+-- toolchain's words, `x.now` is what is behind a reference, `a.0`, `a.1.0` .. are the parameters in their order, `e.0` .. the same
 -- when the function returns, and `Meets` says that every run of a routine returns and keeps a contract.
 -- Assumes nothing.
 use Rattle.std.specs.Prelude.{◌≡◌, [], length, take, drop}
 use seplogic.Ra.Ura.{Ura}
 use base.Logic.{emp}
+use mir.Syntax.{Callee}
 use prog.Model.{Model}
-use prog.Routine.{Routine}
+use prog.Wired.{Code, Wired}
 use types.Logic.{Logic}
 use contract.Lifetimes.{Lfts}
 use contract.Monad.{fact}
@@ -156,11 +157,13 @@ Layout κs a r e = r ≡ layout_number
 
 -- ---- all of them
 
--- on every machine each run of the routine returns, nothing being asked of its caller, and the statement holds
-abbrev pub Holds : (M : Type 1) (T : Ended) → Routine → Statement T → Type 2
-Holds M T routine P =
+-- on every machine that has the function's code under its name each run of it returns, nothing being asked of its caller, and the statement
+-- holds
+abbrev pub Holds : (M : Type 1) (T : Ended) → Code → Callee → Statement T → Type 2
+Holds M T code name P =
     (𝓤 : Ura M) (𝓛 : Logic 𝓤) (𝓜 : Model 𝓤 𝓛.H) (𝓡 : Running 𝓤 𝓛.H 𝓜)
-    → Meets 𝓛 T.signature (𝓡.run routine)
+    → Wired 𝓡.env code
+    → Meets 𝓛 T.signature (𝓡.run (𝓡.env name))
     (closing 𝓛 T (λ κs a. record {
       ghost = Unit {0};
       requires = λ g. emp 𝓤;
@@ -168,14 +171,14 @@ Holds M T routine P =
     }))
 
 pub record Exported (M : Type 1) : Type 2 where
-  pub start : Holds M kf-start.ended start-code.routine Start
-  pub submit : Holds M kf-submit.ended submit-code.routine Submit
-  pub round : Holds M kf-round.ended round-code.routine Round
-  pub collect : Holds M kf-collect.ended collect-code.routine Collect
-  pub read_at : Holds M kf-read.ended read-code.routine ReadAt
-  pub data_of : Holds M kf-data.ended data-code.routine DataOf
-  pub write_to : Holds M kf-write.ended write-code.routine WriteTo
-  pub register_new : Holds M kf-register-new.ended register-new-code.routine RegisterNew
-  pub register_enter : Holds M kf-register-enter.ended register-enter-code.routine RegisterEnter
-  pub register_read : Holds M kf-register-read.ended register-read-code.routine RegisterRead
-  pub layout : Holds M kf-layout.ended layout_code.routine Layout
+  pub start : Holds M kf-start.ended start-code.code start-code.name Start
+  pub submit : Holds M kf-submit.ended submit-code.code submit-code.name Submit
+  pub round : Holds M kf-round.ended round-code.code round-code.name Round
+  pub collect : Holds M kf-collect.ended collect-code.code collect-code.name Collect
+  pub read_at : Holds M kf-read.ended read-code.code read-code.name ReadAt
+  pub data_of : Holds M kf-data.ended data-code.code data-code.name DataOf
+  pub write_to : Holds M kf-write.ended write-code.code write-code.name WriteTo
+  pub register_new : Holds M kf-register-new.ended register-new-code.code register-new-code.name RegisterNew
+  pub register_enter : Holds M kf-register-enter.ended register-enter-code.code register-enter-code.name RegisterEnter
+  pub register_read : Holds M kf-register-read.ended register-read-code.code register-read-code.name RegisterRead
+  pub layout : Holds M kf-layout.ended layout_code.code layout_code.name Layout

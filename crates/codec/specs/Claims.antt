@@ -10,7 +10,6 @@ use Rattle.decoder.specs.Stream.{items_of, joined}
 use Rattle.decoder.specs.declared.Reading.{Reading}
 use Rattle.decoder.specs.declared.Reading.TheVariants.{AtEnd, Faulty, Read}
 use Rattle.encoder.specs.Writing.{write_outcome, written_of}
-use Rattle.encoder.specs.declared.Written.{Written}
 use Rattle.encoder.specs.declared.Written.TheVariants.{Done}
 
 -- op with its data is read at the position at of s, and ends n bytes on

@@ -8,10 +8,10 @@ use Prim.Native.Nat.{ℕ, suc, ◌+◌, ◌^◌, ◌≤◌, ◌<◌}
 use native.Mathlib.Nat.{add-zero, mod-eq_of_lt}
 use native.Mathlib.Omega.{arith}
 use lib.Dec.{eqb}
-use lib.ListN.{length, get_or, take, drop}
+use lib.ListN.{length, get_or, drop}
 use lib.Seq.{drop-cons}
 use borrow.Author.Tests.{eqb-true}
-use Rattle.operation.specs.Number.{little_endian, number, number_at, Bytes}
+use Rattle.operation.specs.Number.{little_endian, number_at, Bytes}
 use Rattle.operation.specs.Format.{code_of, head_length, length_of, fields_of, header, encode, TypedOperation}
 use Rattle.operation.specs.declared.Operation.{Operation}
 use Rattle.operation.specs.declared.Operation.TheVariants.{FormatError}

@@ -1,15 +1,15 @@
 -- What is encoded is found: the bytes of an operation that meets its rules, whatever follows them. The length and the data are
 -- the same argument for every kind (`found-by`); a kind adds only that its fields are read back.
 -- Assumes nothing.
-use mathlib.Core.Path.{◌≡◌, refl, sym, ap, ◌∙◌}
+use mathlib.Core.Path.{◌≡◌, refl, ap, ◌∙◌}
 use mathlib.Core.Bool.{Bool, true, false, cond, ◌||◌}
-use mathlib.Core.List.{List, [], ◌∷◌, ◌++◌}
+use mathlib.Core.List.{List, ◌++◌}
 use Prim.Native.Nat.{ℕ, ◌+◌, ◌≤◌, ◌<◌}
 use native.Mathlib.Nat.{mod-eq_of_lt}
 use native.Mathlib.Omega.{arith}
 use lib.Dec.{leb, eqb, lit<, lit≤}
 use lib.ListN.{length, get_or, take, length-append}
-use lib.Seq.{take_at, take-length}
+use lib.Seq.{take_at}
 use borrow.Author.Tests.{le-ltb, eq-eqb, eqb-true}
 use Rattle.operation.specs.Number.{little_endian, number, number_at}
 use Rattle.operation.specs.Format.{head_length, data_length, code_of, length_of, header, encode, TypedOperation}

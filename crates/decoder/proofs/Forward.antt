@@ -13,7 +13,7 @@ use Rattle.operation.specs.declared.Operation.{Operation}
 use Rattle.decoder.specs.Front.{Shape, none, holds, verdict, judge, decode, stated_length, front, taken}
 use Rattle.decoder.specs.Reading.{placed, read_at}
 use Rattle.decoder.specs.declared.Front.{Front}
-use Rattle.decoder.specs.declared.Front.TheVariants.{End, Fault, Found}
+use Rattle.decoder.specs.declared.Front.TheVariants.{End, Fault}
 
 verdict-taken : (wrongLength lawful : Bool) (op : Operation) (n : ℕ) → taken (verdict wrongLength lawful op n) ≡ n
 unfolding verdict

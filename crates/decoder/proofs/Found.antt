@@ -2,7 +2,7 @@
 -- Assumes nothing.
 use mathlib.Core.Path.{◌≡◌, refl, sym, ap, ◌∙◌, subst}
 use mathlib.Core.Bool.{Bool, true, false, cond, not, ◌||◌}
-use mathlib.Core.List.{List, [], ◌∷◌, ◌++◌}
+use mathlib.Core.List.{List, ◌++◌}
 use Prim.Native.Nat.{ℕ, ◌≤◌}
 use native.Mathlib.Omega.{arith}
 use lib.Dec.{ltb, eqb}
@@ -14,8 +14,7 @@ use Rattle.operation.specs.Format.{length_of}
 use Rattle.operation.specs.Rules.{legal}
 use Rattle.operation.specs.declared.Operation.{Operation}
 use Rattle.operation.proofs.Numbers.{number_prefix}
-use Rattle.decoder.specs.Front.{Kind, Shape, none, holds, kind_of, shape_of, kind_outside, verdict, judge, decode, stated_length, front}
-use Rattle.decoder.specs.declared.Front.{Front}
+use Rattle.decoder.specs.Front.{Shape, none, holds, kind_of, shape_of, kind_outside, verdict, judge, decode, stated_length, front}
 use Rattle.decoder.specs.declared.Front.TheVariants.{End, Fault, Found}
 
 -- what the bytes of an operation passed, where the shape of the operation was h

@@ -3,13 +3,12 @@
 -- Assumes nothing.
 use mathlib.Core.Path.{◌≡◌, refl, sym, ap, ◌∙◌}
 use mathlib.Core.List.{List, [], ◌∷◌, ◌++◌}
-use Prim.Native.Nat.{ℕ, zero, suc, ◌-◌, ◌≤◌}
+use Prim.Native.Nat.{ℕ, zero, suc, ◌≤◌}
 use native.Mathlib.Nat.{le_refl}
 use native.Mathlib.Omega.{arith}
 use lib.ListN.{length, take, drop, length-drop, take-append-drop}
-use Rattle.operation.specs.declared.Operation.{Operation}
 use Rattle.decoder.specs.Front.{front, taken}
-use Rattle.decoder.specs.Stream.{Item, operation, fault, bytes_of, items_up_to, items_of, joined}
+use Rattle.decoder.specs.Stream.{Item, operation, fault, items_up_to, items_of, joined}
 use Rattle.decoder.specs.declared.Front.{Front}
 use Rattle.decoder.specs.declared.Front.TheVariants.{End, Fault, Found}
 use Rattle.decoder.proofs.Forward.{forward}

@@ -1,6 +1,6 @@
 -- What stands at the front goes by the length of the operation that is all there: decoded, or the end, fault 1 or fault 2.
 -- Assumes nothing.
-use mathlib.Core.Path.{◌≡◌, refl, sym, ap}
+use mathlib.Core.Path.{◌≡◌, refl}
 use mathlib.Core.Bool.{Bool, true, false, cond}
 use mathlib.Core.List.{List}
 use Prim.Native.Nat.{ℕ, ◌≤◌, ◌<◌}
@@ -9,8 +9,7 @@ use lib.Dec.{ltb, eqb}
 use lib.ListN.{length, take}
 use borrow.Author.Tests.{eqb-true, ltb-false}
 use Rattle.decoder.specs.Front.{decode, stated_length, whole_length, front}
-use Rattle.decoder.specs.declared.Front.{Front}
-use Rattle.decoder.specs.declared.Front.TheVariants.{End, Fault, Found}
+use Rattle.decoder.specs.declared.Front.TheVariants.{End, Fault}
 
 module _ (s : List ℕ) where
   abbrev n : ℕ

@@ -2,8 +2,7 @@
 ghost use Rattle.std.specs.Prelude.{◌≡◌};
 ghost use Rattle.kettlefrost.specs.Layout.{layout_number};
 
-#[unsafe(no_mangle)]
-pub extern "C" fn kf_layout() -> u64
+pub fn kf_layout() -> u64
     ensures { result ≡ layout_number }
 {
     1_392_188_020_040_016_016

@@ -229,8 +229,7 @@ fn read_named(t: &[u8], at: usize) -> ReadAnswer
 }
 
 // Reads the operation at a position.
-#[unsafe(no_mangle)]
-pub extern "C" fn kf_read(buffer: &[u8], at: usize) -> ReadAnswer
+pub fn kf_read(buffer: &[u8], at: usize) -> ReadAnswer
     ensures { result ≡ read_answer at (read_at buffer.now at) }
 {
     if buffer.len() <= at {
@@ -245,8 +244,7 @@ pub extern "C" fn kf_read(buffer: &[u8], at: usize) -> ReadAnswer
 }
 
 // Where the data of an operation that ends at a position lie.
-#[unsafe(no_mangle)]
-pub extern "C" fn kf_data(buffer: &[u8], operation: FlatOperation, next: usize) -> PartAnswer
+pub fn kf_data(buffer: &[u8], operation: FlatOperation, next: usize) -> PartAnswer
     ensures { result ≡ data_answer buffer.now (named operation) next }
 {
     match operation_of(operation) {
@@ -304,8 +302,7 @@ fn write_named(f: FlatOperation, payload: &[u8], buffer: &mut [u8]) -> Written
 }
 
 // Writes an operation with its data to the front of a buffer.
-#[unsafe(no_mangle)]
-pub extern "C" fn kf_write(
+pub fn kf_write(
     operation: FlatOperation,
     payload: &[u8],
     buffer: &mut [u8],
@@ -325,8 +322,7 @@ const SLOTS: usize = bus_state::SLOT_COUNT;
 // The calls of the bus. A start loads the lent slots and stores them. The others go over the pending ones once, in place, call the bus
 // with that pass's key and what they need of the slots, and put back those that changed.
 
-#[unsafe(no_mangle)]
-pub extern "C" fn kf_start(slots: &mut [Slot], payload: &[u8], queues: &[u8], count: u32) -> Answer
+pub fn kf_start(slots: &mut [Slot], payload: &[u8], queues: &[u8], count: u32) -> Answer
     ensures { left result slots.new payload.now queues.now ≡ leaves (start_in (held (new_state 0) slots.old payload.now queues.now) count) }
 {
     if slots.len() != SLOTS {
@@ -338,8 +334,7 @@ pub extern "C" fn kf_start(slots: &mut [Slot], payload: &[u8], queues: &[u8], co
     bus::answer_started(c)
 }
 
-#[unsafe(no_mangle)]
-pub extern "C" fn kf_submit(
+pub fn kf_submit(
     state: State,
     slots: &mut [Slot],
     payload: &mut [u8],
@@ -360,8 +355,7 @@ pub extern "C" fn kf_submit(
     lent_scan::finish(slots, c)
 }
 
-#[unsafe(no_mangle)]
-pub extern "C" fn kf_round(
+pub fn kf_round(
     state: State,
     slots: &mut [Slot],
     payload: &mut [u8],
@@ -387,8 +381,7 @@ pub extern "C" fn kf_round(
 }
 
 // The queue goes to the front of the caller's buffer.
-#[unsafe(no_mangle)]
-pub extern "C" fn kf_collect(
+pub fn kf_collect(
     state: State,
     slots: &[Slot],
     payload: &[u8],

@@ -155,12 +155,14 @@ module _ (k u : ℕ) where
   woken_before : (nodes : List NodeState) (j n i : ℕ) → i < j → get_or (woken_from nodes k u j n) i no_node ≡ get_or nodes i no_node
   unfolding woken_from
   woken_before nodes j zero i h = refl
-  woken_before nodes j (suc n) i h = woken_before (woken_at nodes j) (suc j) n i (omega arith) ∙ get_or-set_other nodes j i _ no_node (λ e. omega arith)
+  woken_before nodes j (suc n) i h =
+      woken_before (woken_at nodes j) (suc j) n i (omega arith) ∙ get_or-set_other nodes j i _ no_node (λ e. omega arith)
 
   woken_behind : (nodes : List NodeState) (j n i : ℕ) → j + n ≤ i → get_or (woken_from nodes k u j n) i no_node ≡ get_or nodes i no_node
   unfolding woken_from
   woken_behind nodes j zero i h = refl
-  woken_behind nodes j (suc n) i h = woken_behind (woken_at nodes j) (suc j) n i (omega arith) ∙ get_or-set_other nodes j i _ no_node (λ e. omega arith)
+  woken_behind nodes j (suc n) i h =
+      woken_behind (woken_at nodes j) (suc j) n i (omega arith) ∙ get_or-set_other nodes j i _ no_node (λ e. omega arith)
 
   woken_there : (nodes : List NodeState) (j n i : ℕ) → j ≤ i → i < j + n → i < length nodes
       → get_or (woken_from nodes k u j n) i no_node ≡ entry_woken (get_or nodes i no_node) k u i

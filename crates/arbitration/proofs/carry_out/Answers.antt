@@ -35,7 +35,7 @@ overflow_add-to c =
     let a = c.args in
     let d = c.requires.drawn_at.1 in
     let t = place_small d in
-    let n : c.data_length.result ≡ data_length (held_at a.t2 a.position) = c.data_length.ensures ∙ ap data_length c.held_in.ensures in
+    let n : c.data_length.result ≡ data_length (held_at a.four a.position) = c.data_length.ensures ∙ ap data_length c.held_in.ensures in
     omega (arith, t.0, t.1, t.2, n, (four-frames d a.position (omega arith) t.1).short)
 
 pub slice_bounds-tell_all-end : goal.slice_bounds-tell_all-end
@@ -43,22 +43,27 @@ slice_bounds-tell_all-end c =
     let a = c.args in
     let d = c.requires.drawn_at.1 in
     let t = place_small d in
-    let n : c.data_length.result ≡ data_length (held_at a.t2 a.position) = c.data_length.ensures ∙ ap data_length c.held_in.ensures in
+    let n : c.data_length.result ≡ data_length (held_at a.four a.position) = c.data_length.ensures ∙ ap data_length c.held_in.ensures in
     omega (arith, t.0, t.1, t.2, n, (four-frames d a.position (omega arith) t.1).short, c.requires.payload_len.0)
 
 pub tell_all-state-requires : goal.tell_all-state-requires
 unfolding part
 tell_all-state-requires c =
     let a = c.args in
-    let p = c.requires.1 in
     let d = c.requires.drawn_at.1 in
     let t = place_small d in
     let f = four-frames d a.position (omega arith) t.1 in
-    let n : c.data_length.result ≡ data_length (held_at a.t2 a.position) = c.data_length.ensures ∙ ap data_length c.held_in.ensures in
+    let n : c.data_length.result ≡ data_length (held_at a.four a.position) = c.data_length.ensures ∙ ap data_length c.held_in.ensures in
     let from = 2_048 * (4 * a.owner + a.position) in
-    let k : from + c.data_length.result - from ≡ data_length (held_at a.t2 a.position) = add-sub_cancel_left _ _ ∙ n in
-    let b = length_part from (data_length (held_at a.t2 a.position)) a.payload.now (omega (arith, t.0, t.1, t.2, f.short, p.1.1.0)) in
-    ((p.0.0, p.0.1, tellable a.s c.requires.drawn_at.0 d.drawn.valid a.ids d.drawn.named), (pending_at_lem d, ((f, rw k b, p.1.0.0), (p.1.0.1, p.1.1.1))))
+    let k : from + c.data_length.result - from ≡ data_length (held_at a.four a.position) = add-sub_cancel_left _ _ ∙ n in
+    let b = length_part from (data_length (held_at a.four a.position)) a.payload.now (omega (arith, t.0, t.1, t.2, f.short, c.requires.payload_len.0)) in
+    record {
+      round_lt_last_round =
+          (c.requires.round_lt_last_round.0, c.requires.round_lt_last_round.1, tellable a.s c.requires.drawn_at.0 d.drawn.valid a.ids d.drawn.named);
+      pending_at = pending_at_lem d;
+      writable = (f, rw k b, c.requires.size_value.0);
+      count_value = (c.requires.size_value.1, c.requires.payload_len.1);
+    }
 
 pub overflow_sub-last : goal.overflow_sub-last
 overflow_sub-last c =
@@ -70,7 +75,10 @@ move_data-requires c =
     let d = c.requires.drawn_at.1 in
     let t = place_small d in
     rw c.entry-d.ensures
-    ((omega (arith, t.1), omega (arith, t.1, t.2), omega (arith, t.0), c.requires.payload_len.0), λ p l u. four-frames d p (omega arith) (omega (arith, t.1)))
+    (record {
+      position_le_last = (omega (arith, t.1), omega (arith, t.1, t.2), omega (arith, t.0), c.requires.payload_len.0);
+      frames = λ p l u. four-frames d p (omega arith) (omega (arith, t.1));
+    })
 
 pub block_without-block-requires : goal.block_without-block-requires
 block_without-block-requires c =
@@ -91,12 +99,11 @@ pub returns : goal.returns
 unfolding part
 returns c =
     let a = c.args in
-    let p = c.requires.1 in
-    let x = p.1.0.0 in
-    let n : c.data_length.result ≡ data_length (held_at a.t2 a.position) = c.data_length.ensures ∙ ap data_length c.held_in.ensures in
+    let x = c.requires.size_value.0 in
+    let n : c.data_length.result ≡ data_length (held_at a.four a.position) = c.data_length.ensures ∙ ap data_length c.held_in.ensures in
     let from = 2_048 * (4 * a.owner + a.position) in
-    let k : from + c.data_length.result - from ≡ data_length (held_at a.t2 a.position) = add-sub_cancel_left _ _ ∙ n in
+    let k : from + c.data_length.result - from ≡ data_length (held_at a.four a.position) = add-sub_cancel_left _ _ ∙ n in
     let g = c.tell_all-state.ensures in
     let own = c.entry-d.ensures in
     let eight = c.well_formed.0.1.1.1.1.0.1.0.1 in
-    record { queues_after = λ l d. done-ended a.s l a.payload.now a.queues.now a.e a.owner a.position a.t2 a.ids eight p.1.1 d (rw x at p.1.0.1) c.id_of.ensures c.is_errored.ensures (rw x at g.0) (rw own at c.block_without-block.ensures) (rw own at c.move_data.ensures) (rw k at g.1); at_value = refl }
+    record { queues_after = λ l d. done-ended a.s l a.payload.now a.queues.now a.e a.owner a.position a.four a.ids eight c.requires.payload_len d (rw x at c.requires.size_value.1) c.id_of.ensures c.is_errored.ensures (rw x at g.value) (rw own at c.block_without-block.ensures) (rw own at c.move_data.ensures) (rw k at g.queues_after); at_value = refl }

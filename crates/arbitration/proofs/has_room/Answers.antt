@@ -21,7 +21,7 @@ owed_length-requires c =
 pub overflow_add-d : goal.overflow_add-d
 overflow_add-d c =
     let j = c.loop-j.j in
-    rw c.owed_length.ensures (omega (arith, c.struct_known-in-loop-j-1.given, owed-short c.args.e (node_state c.args.s j) (eqb j c.args.owner) c.args.size c.requires.2))
+    rw c.owed_length.ensures (omega (arith, owed-short c.args.e (node_state c.args.s j) (eqb j c.args.owner) c.args.size c.requires.2))
 
 pub returns-then-d-owed_length-gt-BYTES_PER_QUEUE : goal.returns-then-d-owed_length-gt-BYTES_PER_QUEUE
 returns-then-d-owed_length-gt-BYTES_PER_QUEUE c =

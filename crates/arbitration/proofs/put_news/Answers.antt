@@ -38,7 +38,11 @@ put_operation-requires c =
     let a = c.args in
     let n = news_other a.j a.owner a.off (held_in (content_of a.winner)) a.bytes.now c.in-NoError.is c.if-j-owner.false c.if-off.false in
     let l = encode-length (held_in (content_of a.winner)) a.bytes.now in
-    rw c.held_in.ensures ((c.requires.writable.lawful, c.requires.e_value.1, c.requires.writable.short), omega (arith, rw (n, l, c.requires.e_value.1) at c.requires.bytes_in_bounds))
+    rw c.held_in.ensures
+    (record {
+      op_value = (c.requires.writable.lawful, c.requires.e_value.1, c.requires.writable.short);
+      op_in_bounds = omega (arith, rw (n, l, c.requires.e_value.1) at c.requires.bytes_in_bounds);
+    })
 
 pub returns-then-off-2 : goal.returns-then-off-2
 returns-then-off-2 c =

@@ -10,7 +10,7 @@ use native.Mathlib.Omega.{arith}
 use Rattle.arbitration.proofs.put_notice.Goals as goal
 
 pub returns-then-wins : goal.returns-then-wins
-returns-then-wins c = rw c.if-wins.true (sym (add-zero _), sym (over_none _ _))
+returns-then-wins c = rw c.if-wins.true (record { value = sym (add-zero _); queues_after = sym (over_none _ _) })
 
 pub put_lost-requires : goal.put_lost-requires
 put_lost-requires c =
@@ -25,4 +25,4 @@ overflow_add-result c =
 pub returns : goal.returns
 returns c =
     let l = encode-length (ArbitrationLost c.args.id) [] in
-    rw c.if-wins.false (rw l, c.put_lost.ensures)
+    rw c.if-wins.false (record { value = rw l; queues_after = c.put_lost.ensures })

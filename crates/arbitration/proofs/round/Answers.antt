@@ -43,5 +43,5 @@ returns-in-First c =
     let g = c.in-First.is in
     let q = sym c.is_wrong.ensures ∙ c.if-is_wrong.false in
     let e = c.arbitrate.ensures in
-    let o : c.arbitrate.result.at ≡ 4 * owner_of a.best = e.1 ∙ rw g in
-    record { queues_after = λ l d. e.0 l (first-drawn d g) ∙ won-ended a.s l a.payload.now a.queues.now a.e q (sym d.first ∙ g); at_value = o; slots_per_node_bound = omega (arith, o, owner_small c.requires.drawn.1) }
+    let o : c.arbitrate.result.at ≡ 4 * owner_of a.best = e.at_value ∙ rw g in
+    record { queues_after = λ l d. e.queues_after l (first-drawn d g) ∙ won-ended a.s l a.payload.now a.queues.now a.e q (sym d.first ∙ g); at_value = o; slots_per_node_bound = omega (arith, o, owner_small c.requires.drawn.1) }

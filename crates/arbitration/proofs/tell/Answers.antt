@@ -9,7 +9,12 @@ use Rattle.arbitration.proofs.tell.Goals as goal
 
 pub put_news-requires : goal.put_news-requires
 put_news-requires c =
-    rw c.is_off-off.ensures (c.requires.writable, ((c.requires.e_value.0, c.requires.e_value.1), c.requires.bytes_in_bounds))
+    rw c.is_off-off.ensures
+    (record {
+      writable = c.requires.writable;
+      e_value = (c.requires.e_value.0, c.requires.e_value.1);
+      bytes_in_bounds = c.requires.bytes_in_bounds;
+    })
 
 pub overflow_add-result : goal.overflow_add-result
 overflow_add-result c =

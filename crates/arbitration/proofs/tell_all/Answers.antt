@@ -5,7 +5,7 @@ use Rattle.arbitration.proofs.Lengths.{discarded-few}
 use Rattle.arbitration.proofs.Rooms.{room_at, owed-fits}
 use Rattle.arbitration.proofs.Settled.{entries_next, entries-end, queues-next, queues-end}
 use Rattle.arbitration.proofs.Told.{notices_next, notices_end}
-use Rattle.arbitration.specs.After.{state_after, queues_after}
+use Rattle.arbitration.specs.After.{state_after}
 use Rattle.bus_state.specs.Memory.{is_off, node_state, no_node}
 use Rattle.arbitration.specs.Owed.{discarded, news_to, notice_of, notices_but, owed_to}
 use Rattle.buffers.proofs.Offsets.{length_over}
@@ -42,7 +42,13 @@ tell-to-requires c =
     let g = c.requires.writable in
     let r = c.requires.count_value in
     let k = owed-fits a.e (held_in (content_of a.winner)) a.bytes.now a.size c.requires.round_lt_last_round.2 c.requires.pending_at g.1 g.2 r.0 l.j (omega arith) in
-    rw (l.invariant.5 l.j (omega arith)) (omega arith, (g.0, ((c.requires.round_lt_last_round.1, g.1, g.2), omega (arith, k, r.1, l.invariant.4))))
+    rw (l.invariant.5 l.j (omega arith))
+    (record {
+      j_bound = omega arith;
+      writable = g.0;
+      e_value = (c.requires.round_lt_last_round.1, g.1, g.2);
+      bytes_in_bounds = omega (arith, k, r.1, l.invariant.4);
+    })
 
 pub overflow_add-end : goal.overflow_add-end
 overflow_add-end c =
@@ -65,7 +71,7 @@ loop-p-init c =
     let n = rw same at c.discarded.ensures in
     let t = rw same at c.tell-to.ensures in
     let o = length_over (4_096 * l.j + d.fill) news l.queues (omega (arith, k, r.1, l.invariant.4)) in
-    (omega arith, omega arith, omega (arith, n, few, discarded-few d), refl, rw (n, add-sub_cancel_left, t.1, t.0) (omega (arith, k, r.1, l.invariant.4, o)), refl)
+    (omega arith, omega arith, omega (arith, n, few, discarded-few d), refl, rw (n, add-sub_cancel_left, t.queues_after, t.value) (omega (arith, k, r.1, l.invariant.4, o)), refl)
 
 pub put_notice-to-requires : goal.put_notice-to-requires
 put_notice-to-requires c =
@@ -92,7 +98,7 @@ loop-p-preserved c =
     let k = length-append first rest in
     let e = c.put_notice-to.ensures in
     let h = length_over m.to first m.queues (omega (arith, m.invariant.4, ap length x, k)) in
-    (omega arith, omega arith, m.invariant.2, rw (e.1, e.0, add-one m.p) (over-over m.queues first rest m.to (omega (arith, m.invariant.4)) ∙ ap (over m.queues m.to) (sym x) ∙ m.invariant.3), rw (e.1, e.0, add-one m.p) (omega (arith, m.invariant.4, ap length x, k, h)), ap length e.1 ∙ h ∙ m.invariant.5)
+    (omega arith, omega arith, m.invariant.2, rw (e.queues_after, e.value, add-one m.p) (over-over m.queues first rest m.to (omega (arith, m.invariant.4)) ∙ ap (over m.queues m.to) (sym x) ∙ m.invariant.3), rw (e.queues_after, e.value, add-one m.p) (omega (arith, m.invariant.4, ap length x, k, h)), ap length e.queues_after ∙ h ∙ m.invariant.5)
 
 pub entry_after-requires : goal.entry_after-requires
 entry_after-requires c =
@@ -125,7 +131,7 @@ loop-j-preserved c =
     let at = 4_096 * l.j + d.fill in
     let x = sym (over_none m.queues m.to) ∙ ap (over m.queues m.to) (sym (notices_end a.ids slot m.p end (omega arith))) ∙ m.invariant.3 in
     let y = rw (rw same at c.discarded.ensures, add-sub_cancel_left) at x in
-    let z = in_two l.queues news told at (omega (arith, k, r.1, l.invariant.4)) t.1 t.0 y in
+    let z = in_two l.queues news told at (omega (arith, k, r.1, l.invariant.4)) t.queues_after t.value y in
     let o = length_over at (owed_to a.e d l.j a.owner a.position op a.ids a.bytes.now) l.queues (omega (arith, k, h, r.1, l.invariant.4)) in
     (omega arith, omega arith, rw (add-one l.j, rw same at c.entry_after.ensures) (sym (entries_next a.e a.s.nodes a.owner a.size l.j a.s.count l.after (omega arith)) ∙ l.invariant.2), rw (add-one l.j, z) (sym (queues-next a.e a.s.nodes a.owner a.position op a.ids a.bytes.now l.j a.s.count l.queues (omega arith)) ∙ l.invariant.3), ap length z ∙ o ∙ l.invariant.4, λ i h. get_or-set_other l.after l.j i _ no_node (λ e. omega arith) ∙ l.invariant.5 i (omega arith))
 

@@ -1,5 +1,5 @@
 -- Each arm by what the slot holds.
-use Rattle.slots.specs.Slots.{content_of, held_in}
+use Rattle.slots.specs.Slots.{held_in}
 use mathlib.Core.Path.{sym, ap, ◌∙◌}
 use Rattle.slots.proofs.held_in.Goals as goal
 

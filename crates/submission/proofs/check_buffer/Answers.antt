@@ -2,20 +2,11 @@ use Rattle.submission.proofs.Stands.{stand}
 use Rattle.submission.proofs.Takes.{next-end, next-taken}
 use Rattle.submission.proofs.Turns.{checking_first, full-checked, wakeup-checked, entry-refused, entry-checked}
 use Rattle.submission.proofs.Walks.{check-end}
-use Rattle.submission.specs.Effects.{Taken}
 use Rattle.submission.specs.declared.Verdict.TheVariants.{FourPending, QueueFull}
 use lib.ListN.{length}
 use mathlib.Core.Path.{◌≡◌, refl, sym, ◌∙◌}
 use native.Mathlib.Omega.{arith}
 use Rattle.submission.proofs.check_buffer.Goals as goal
-
--- the step that a turn takes
-turn : (c : tie.After-known-told invariant-loop decreases-loop)
-    → let p = c.before.before.before in
-    Taken p.before.before.before.args.buffer.now p.before.loop.at c.before.step.given.0.0
-turn c =
-    let p = c.before.before.before in
-    next-taken p.before.before.before.args.buffer.now p.before.loop.at p.step-at.ensures c.before.step.given.1
 
 pub loop-step-init : goal.loop-step-init
 loop-step-init c =
@@ -30,7 +21,7 @@ returns-in-End c =
     sym (check-end a.buffer.now l.at a.k (stand a.s a.k l.wakeups l.d) (next-end a.buffer.now l.at c.step_at.ensures c.in-End.is)) ∙ l.invariant.decides
 
 pub overflow_sub-size : goal.overflow_sub-size
-overflow_sub-size c = omega (arith, (turn c).forward)
+overflow_sub-size c = omega (arith, (next-taken c.args.buffer.now c.loop-step.at c.step_at.ensures c.in-At.is).forward)
 
 pub overflow_add-wakeups : goal.overflow_add-wakeups
 overflow_add-wakeups c =
@@ -48,35 +39,35 @@ overflow_add-wakeups-then-wakeups_have_room c =
     omega (arith, g.counted, g.within, g.short)
 
 pub loop-step-smaller-then-wakeups_have_room : goal.loop-step-smaller-then-wakeups_have_room
-loop-step-smaller-then-wakeups_have_room c = let t = turn c in omega (arith, t.forward, t.within)
+loop-step-smaller-then-wakeups_have_room c = let t = next-taken c.args.buffer.now c.loop-step.at c.step_at.ensures c.in-At.is in omega (arith, t.forward, t.within)
 
 pub loop-step-preserved-then-wakeups_have_room : goal.loop-step-preserved-then-wakeups_have_room
 loop-step-preserved-then-wakeups_have_room c =
-    wakeup-checked c.loop-step.invariant _ (turn g) (sym c.is_wakeup.ensures ∙ c.if-is_wakeup.true) (sym c.wakeups_have_room.ensures ∙ c.if-wakeups_have_room.true)
+    wakeup-checked c.loop-step.invariant _ (next-taken c.args.buffer.now c.loop-step.at c.step_at.ensures c.in-At.is) (sym c.is_wakeup.ensures ∙ c.if-is_wakeup.true) (sym c.wakeups_have_room.ensures ∙ c.if-wakeups_have_room.true)
 
 pub returns-else-wakeups_have_room : goal.returns-else-wakeups_have_room
 returns-else-wakeups_have_room c =
-    sym (full-checked c.loop-step.invariant _ (turn g) (sym c.is_wakeup.ensures ∙ c.if-is_wakeup.true) (sym c.wakeups_have_room.ensures ∙ c.if-wakeups_have_room.false))
+    sym (full-checked c.loop-step.invariant _ (next-taken c.args.buffer.now c.loop-step.at c.step_at.ensures c.in-At.is) (sym c.is_wakeup.ensures ∙ c.if-is_wakeup.true) (sym c.wakeups_have_room.ensures ∙ c.if-wakeups_have_room.false))
 
 pub entry_check-requires : goal.entry_check-requires
-entry_check-requires c = omega (arith, (turn c).within)
+entry_check-requires c = omega (arith, (next-taken c.args.buffer.now c.loop-step.at c.step_at.ensures c.in-At.is).within)
 
 pub returns-in-FourPending : goal.returns-in-FourPending
 returns-in-FourPending c =
-    sym (entry-refused c.loop-step.invariant _ (turn g) FourPending (sym c.is_wakeup.ensures ∙ c.if-is_wakeup.false) (sym c.entry_check.ensures ∙ c.in-FourPending.is) (λ v. refl))
+    sym (entry-refused c.loop-step.invariant _ (next-taken c.args.buffer.now c.loop-step.at c.step_at.ensures c.in-At.is) FourPending (sym c.is_wakeup.ensures ∙ c.if-is_wakeup.false) (sym c.entry_check.ensures ∙ c.in-FourPending.is) (λ v. refl))
 
 pub returns-in-QueueFull : goal.returns-in-QueueFull
 returns-in-QueueFull c =
-    sym (entry-refused c.loop-step.invariant _ (turn g) QueueFull (sym c.is_wakeup.ensures ∙ c.if-is_wakeup.false) (sym c.entry_check.ensures ∙ c.in-QueueFull.is) (λ v. refl))
+    sym (entry-refused c.loop-step.invariant _ (next-taken c.args.buffer.now c.loop-step.at c.step_at.ensures c.in-At.is) QueueFull (sym c.is_wakeup.ensures ∙ c.if-is_wakeup.false) (sym c.entry_check.ensures ∙ c.in-QueueFull.is) (λ v. refl))
 
 pub entry_after-d-requires : goal.entry_after-d-requires
 entry_after-d-requires c =
-    let t = turn c in
+    let t = next-taken c.args.buffer.now c.loop-step.at c.step_at.ensures c.in-At.is in
     (omega (arith, t.within), sym c.entry_check.ensures ∙ c.in-Goes.is, t.rate)
 
 pub loop-step-smaller : goal.loop-step-smaller
-loop-step-smaller c = let t = turn c in omega (arith, t.forward, t.within)
+loop-step-smaller c = let t = next-taken c.args.buffer.now c.loop-step.at c.step_at.ensures c.in-At.is in omega (arith, t.forward, t.within)
 
 pub loop-step-preserved : goal.loop-step-preserved
 loop-step-preserved c =
-    entry-checked c.loop-step.invariant _ (turn g) (sym c.is_wakeup.ensures ∙ c.if-is_wakeup.false) (sym c.entry_check.ensures ∙ c.in-Goes.is) c.entry_after-d.ensures
+    entry-checked c.loop-step.invariant _ (next-taken c.args.buffer.now c.loop-step.at c.step_at.ensures c.in-At.is) (sym c.is_wakeup.ensures ∙ c.if-is_wakeup.false) (sym c.entry_check.ensures ∙ c.in-Goes.is) c.entry_after-d.ensures

@@ -38,4 +38,4 @@ pub returns-in-Goes : goal.returns-in-Goes
 returns-in-Goes c =
     let r = c.carry_buffer.ensures in
     let n = c.first_slot-at.ensures.0 ∙ first_slot_of c.args.node (omega arith) in
-    record { ended = λ a e. rw (r.0.0, r.0.1) (all-taken c.args.s a c.args.payload.now c.args.queues.now c.args.node c.args.buffer.now c.if-s-node.false c.if-buffer-gt-LONGEST_BUFFER.false (sym c.check_buffer.ensures ∙ c.in-Goes.is) (rw n (r.1 a ∙ rw (laid_again a (4 * c.args.node) (rw (r.0.1, n) at e))))); place = r.0.1 ∙ c.first_slot-at.ensures.0; inside = rw r.0.1 c.first_slot-at.ensures.1 }
+    record { ended = λ a e. rw (r.outcome.0, r.outcome.1) (all-taken c.args.s a c.args.payload.now c.args.queues.now c.args.node c.args.buffer.now c.if-s-node.false c.if-buffer-gt-LONGEST_BUFFER.false (sym c.check_buffer.ensures ∙ c.in-Goes.is) (rw n (r.memory a ∙ rw (laid_again a (4 * c.args.node) (rw (r.outcome.1, n) at e))))); place = r.outcome.1 ∙ c.first_slot-at.ensures.0; inside = rw r.outcome.1 c.first_slot-at.ensures.1 }
