@@ -13,7 +13,7 @@ told r s e = sym (ap (λ (v : Verdict). answered r (given v s.register)) e)
 pub returns-in-Done : goal.returns-in-Done
 returns-in-Done c =
     let a = c.args in
-    ap (λ (r : Register). record { number = 0; register = r }) c.flattened-register.ensures ∙ told a.register a.step c.enum_told-1.given.1
+    ap (λ (r : Register). record { number = 0; register = r }) c.flattened-register.ensures ∙ told a.register a.step c.in-Done.is
 
 pub returns-in-Full : goal.returns-in-Full
 returns-in-Full c = told c.args.register c.args.step c.in-Full.is

@@ -5,6 +5,7 @@ use Rattle.open_frames.specs.Record.{open_in}
 use Rattle.open_frames.specs.Steps.{item_step, step_of}
 use lib.ListN.{drop}
 use mathlib.Core.Path.{refl, sym, ap, ◌∙◌}
+use borrow.Author.Rules.{rules}
 use native.Mathlib.Omega.{arith}
 use Rattle.open_frames.proofs.apply_all.Goals as goal
 
