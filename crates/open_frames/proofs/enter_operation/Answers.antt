@@ -49,7 +49,7 @@ returns-in-Configuration c =
 pub returns-in-Status : goal.returns-in-Status
 unfolding enter_item
 returns-in-Status c =
-        record { step = ap step_of c.unchanged-in-Status.ensures ∙ ap updated c.note_status.ensures.noted ∙ enter_kind (open_in c.args.register) c.in-Status.is; within = rw c.unchanged-in-Status.ensures c.note_status.ensures.within }
+    record { step = ap step_of c.unchanged-in-Status.ensures ∙ ap updated c.note_status.ensures.noted ∙ enter_kind (open_in c.args.register) c.in-Status.is; within = rw c.unchanged-in-Status.ensures c.note_status.ensures.within }
 
 pub returns-in-Wakeup : goal.returns-in-Wakeup
 unfolding enter_item
