@@ -59,7 +59,8 @@ put_bus_error-requires c =
     let k = legal_code c.in-Injected.is c.requires.e_value.0 in
     let i : c.id_of-id.result ≤ 536_870_911 = rw c.id_of-id.ensures c.requires.writable.id in
     let n = news_error a.j a.owner a.off (held_in (content_of a.winner)) a.bytes.now c.in-Injected.is c.if-off-2.false in
-    let l = encode-length (BusError (id_of (held_in (content_of a.winner))) c.in-Injected.code (cond (eqb a.j c.in-Injected.detector) 1 2) (own (eqb a.j a.owner))) [] in
+    let l =
+    encode-length (BusError (id_of (held_in (content_of a.winner))) c.in-Injected.code (cond (eqb a.j c.in-Injected.detector) 1 2) (own (eqb a.j a.owner))) [] in
     rw (c.flag_at.ensures, byte_own) (error_lawful c.id_of-id.result c.in-Injected.code (eqb a.j c.in-Injected.detector) (eqb a.j a.owner) i k, omega (arith, rw (n, l) at c.requires.bytes_in_bounds))
 
 pub returns-else-off : goal.returns-else-off
