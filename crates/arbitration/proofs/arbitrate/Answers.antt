@@ -61,7 +61,8 @@ returns-then-s-ge-LAST_ROUND c =
     record {
       queues_after =
           λ l d. block-kept-ends RoundsUsedUp a.s l (4 * a.owner) a.payload.now a.queues.now d.drawn.block
-          ∙ used_up_ended a.s l a.payload.now a.queues.now a.e a.owner a.position a.four a.ids eight c.requires.payload_len d q c.if-s-ge-LAST_ROUND.true;
+          ∙ used_up_ended a.s l a.payload.now a.queues.now a.e a.owner a.position a.four a.ids eight c.requires.payload_len d q
+          c.if-s-ge-LAST_ROUND.true;
       at_value = refl;
     }
 
@@ -89,6 +90,7 @@ returns c =
     record {
       queues_after =
           λ l d. e.queues_after l d
-          ∙ carried-ended a.s l a.payload.now a.queues.now a.e a.owner a.position a.four a.ids eight c.requires.payload_len d q c.if-s-ge-LAST_ROUND.false;
+          ∙ carried-ended a.s l a.payload.now a.queues.now a.e a.owner a.position a.four a.ids eight c.requires.payload_len d q
+          c.if-s-ge-LAST_ROUND.false;
       at_value = e.at_value;
     }

@@ -42,7 +42,8 @@ tell-to-requires c =
     let g = c.requires.writable in
     let r = c.requires.count_value in
     let k =
-    owed-fits a.e (held_in (content_of a.winner)) a.bytes.now a.size c.requires.round_lt_last_round.2 c.requires.pending_at g.1 g.2 r.0 l.j (omega arith) in
+    owed-fits a.e (held_in (content_of a.winner)) a.bytes.now a.size c.requires.round_lt_last_round.2 c.requires.pending_at g.1 g.2 r.0
+    l.j (omega arith) in
     rw (l.invariant.5 l.j (omega arith))
     (record {
       j_bound = omega arith;
@@ -91,7 +92,13 @@ put_notice-to-requires c =
     let x = notices_next a.ids slot m.p end (omega arith) in
     let n = rw (l.invariant.5 l.j (omega arith)) at c.discarded.ensures in (
       c.requires.round_lt_last_round.2.lawful l.j (omega arith) m.p m.invariant.0 (omega (arith, n, few)),
-      omega (arith, m.invariant.4, ap length x, length-append (notice_of (eqb m.p slot) (get_or a.ids m.p 0)) (notices_but a.ids slot (suc m.p) (end - suc m.p))),
+      omega (
+        arith,
+        m.invariant.4,
+        ap length x,
+        length-append (notice_of (eqb m.p slot) (get_or a.ids m.p 0))
+            (notices_but a.ids slot (suc m.p) (end - suc m.p)),
+      ),
     )
 
 pub loop-p-preserved : goal.loop-p-preserved
@@ -110,7 +117,8 @@ loop-p-preserved c =
       omega arith,
       omega arith,
       m.invariant.2,
-      rw (e.queues_after, e.value, add-one m.p) (over-over m.queues first rest m.to (omega (arith, m.invariant.4)) ∙ ap (over m.queues m.to) (sym x) ∙ m.invariant.3),
+      rw (e.queues_after, e.value, add-one m.p)
+          (over-over m.queues first rest m.to (omega (arith, m.invariant.4)) ∙ ap (over m.queues m.to) (sym x) ∙ m.invariant.3),
       rw (e.queues_after, e.value, add-one m.p) (omega (arith, m.invariant.4, ap length x, k, h)),
       ap length e.queues_after ∙ h ∙ m.invariant.5,
     )
@@ -150,11 +158,14 @@ loop-j-preserved c =
     let x = sym (over_none m.queues m.to) ∙ ap (over m.queues m.to) (sym (notices_end a.ids slot m.p end (omega arith))) ∙ m.invariant.3 in
     let y = rw (rw same at c.discarded.ensures, add-sub_cancel_left) at x in
     let z = in_two l.queues news told at (omega (arith, k, r.1, l.invariant.4)) t.queues_after t.value y in
-    let o = length_over at (owed_to a.e d l.j a.owner a.position op a.ids a.bytes.now) l.queues (omega (arith, k, h, r.1, l.invariant.4)) in (
+    let o = length_over at (owed_to a.e d l.j a.owner a.position op a.ids a.bytes.now) l.queues (omega (arith, k, h, r.1, l.invariant.4))
+    in (
       omega arith,
       omega arith,
-      rw (add-one l.j, rw same at c.entry_after.ensures) (sym (entries_next a.e a.s.nodes a.owner a.size l.j a.s.count l.after (omega arith)) ∙ l.invariant.2),
-      rw (add-one l.j, z) (sym (queues-next a.e a.s.nodes a.owner a.position op a.ids a.bytes.now l.j a.s.count l.queues (omega arith)) ∙ l.invariant.3),
+      rw (add-one l.j, rw same at c.entry_after.ensures)
+          (sym (entries_next a.e a.s.nodes a.owner a.size l.j a.s.count l.after (omega arith)) ∙ l.invariant.2),
+      rw (add-one l.j, z)
+          (sym (queues-next a.e a.s.nodes a.owner a.position op a.ids a.bytes.now l.j a.s.count l.queues (omega arith)) ∙ l.invariant.3),
       ap length z ∙ o ∙ l.invariant.4,
       λ i h. get_or-set_other l.after l.j i _ no_node (λ e. omega arith) ∙ l.invariant.5 i (omega arith),
     )
