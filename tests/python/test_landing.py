@@ -208,7 +208,8 @@ class Landing(unittest.TestCase):
     def test_proof_alone(self):
         self.assertEqual(self.moved([
             (LAWS, "omega (arith, k)", "omega arith"), (PROOF, "c = refl", "c = rw (c.e)"),
-        ]), ({"proofs": ".2.."}, ["- changed in low: `twice-grows` (Laws); `returns` (add.Answers)"]))
+        ]), ({"proofs": ".2.."},
+             ["- changed in low: `twice-grows` (Laws); `returns` (add.Answers)"]))
         self.commit({LAWS: FILES[LAWS].replace("unfolding twice", "unfolding twice other")})
         self.assertIn("- changed in low: `twice-grows` (Laws); `returns` (add.Answers)\n",
                       self.printed("HEAD~2"))
