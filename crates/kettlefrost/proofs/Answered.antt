@@ -1,19 +1,14 @@
--- What the calls of the bus answer: where the slots are not 32, refusal 1; else what the call with the slots by value comes to.
+-- What the calls of the bus answer where the slots are not 32: refusal 1.
 -- Assumes nothing.
-use mathlib.Core.Path.{◌≡◌, ap, ◌∙◌}
+use mathlib.Core.Path.{◌≡◌}
 use mathlib.Core.Bool.{false}
 use mathlib.Core.List.{List}
 use Prim.Native.Nat.{ℕ}
 use lib.ListN.{length}
 use borrow.Author.Tests.{ne_eqb}
-use Rattle.slots.specs.declared.Slot.{Slot}
 use Rattle.plain_bus.specs.Round.{Injection}
 use Rattle.bus_state.specs.Memory.{Memory, lent_well}
 use Rattle.bus_model.specs.Calls.{Result, wrong_memory, checked, no_start, start_in, submit_in, round_in}
-use Rattle.outcome.specs.declared.Answer.{Answer}
-use Rattle.outcome.specs.Outcome.{answer_of}
-use Rattle.outcome.specs.Ended.{Ended, ended}
-use Rattle.bus.specs.Left.{Left, left, leaves}
 
 abbrev pub wrong_in : Memory → Result
 wrong_in m = record { reply = wrong_memory; memory = m }
@@ -38,13 +33,3 @@ module _ (m : Memory) (h : length m.slots ≡ 32 → ⊥) where
   pub wrong_round : (e : Injection) → round_in m e ≡ wrong_in m
   unfolding round_in
   wrong_round e = wrong_checked _
-
--- what an outcome with the memory after it leaves
-abbrev left_by : Ended → Left
-left_by e = left (answer_of e.outcome e.memory.state) e.memory.slots e.memory.payload e.memory.queues
-
-pub is_left : (e : Ended) (r : Result) → e ≡ ended r → (a : Answer) (l : List Slot) → a ≡ answer_of e.outcome e.memory.state → l ≡ e.memory.slots
-    → left a l e.memory.payload e.memory.queues ≡ leaves r
-is_left e r h a l ha hl =
-    ap (λ (x : Answer). left x l e.memory.payload e.memory.queues) ha
-    ∙ ap (λ (x : List Slot). left (answer_of e.outcome e.memory.state) x e.memory.payload e.memory.queues) hl ∙ ap left_by h

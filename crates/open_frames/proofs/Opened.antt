@@ -2,12 +2,12 @@
 -- Assumes nothing.
 use mathlib.Core.Path.{◌≡◌, refl, sym, ap, ◌∙◌}
 use mathlib.Core.Bool.{Bool, true, false, not, ◌&&◌, ◌||◌}
-use mathlib.Core.List.{List, [], ◌∷◌, ◌++◌, map, append-nil, append_assoc}
+use mathlib.Core.List.{List, [], ◌∷◌, ◌++◌, append-nil, append_assoc}
 use Prim.Native.Nat.{ℕ, suc, ◌+◌, ◌-◌, ◌≤◌, ◌<◌}
 use native.Mathlib.Omega.{arith}
 use native.Mathlib.Numerals.{add-one}
 use lib.Dec.{eqb, leb}
-use lib.ListN.{length-map, length, take, drop, get_or, set, length-append, length-take, length-replicate}
+use lib.ListN.{length, take, drop, get_or, set, length-append, length-take, length-replicate}
 use lib.Seq.{length-take-le, drop-cons, drop-length, take-suc-set, drop-set-lt, take-set-lt, take-take, get_or-take}
 use borrow.Author.Tests.{lt-leb, le-leb, eq-eqb, ne_eqb, leb-true}
 use Rattle.operation.specs.Rules.{max_extended_id}
@@ -88,10 +88,6 @@ moved ids n i fits h =
 pub moved_all : (ids : List ℕ) (i : ℕ) → suc i ≤ length ids → cut i (take (suc i) ids) ≡ take i ids
 moved_all ids i fits =
     rw (take-take i (suc i) ids (omega arith), from_end ids (suc i) fits, append-nil (take i ids))
-
--- the array of a register that a function is called with has its length
-pub array : (ids : List ℕ) → length (map (λ (x : ℕ). x) ids) ≡ 345 → length ids ≡ 345
-array ids h = sym (length-map ids (λ (x : ℕ). x)) ∙ h
 
 pub one_too_large : (r : Register) → length r.ids ≡ 345 → r.count ≤ 345
     → plain.none_above max_extended_id (take r.count r.ids) ≡ false → plain.valid_register (open_in r) ≡ false

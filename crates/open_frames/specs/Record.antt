@@ -1,6 +1,6 @@
 -- Believed. The register of open frames (01: the book) as a record of plain numbers, and what its calls answer.
 -- Assumes nothing.
-use Rattle.std.specs.Prelude.{ℕ, ◌-◌, List, ◌++◌, cond, not, eqb, length, take, replicate}
+use Rattle.std.specs.Prelude.{◌-◌, ◌++◌, cond, not, eqb, length, take, replicate}
 use Rattle.plain_bus.specs.Refusal.{register_number}
 use Rattle.plain_bus.specs.Register as plain
 use Rattle.open_frames.specs.declared.Register.{Register}

@@ -83,6 +83,7 @@ pub fn is_valid(register: Register) -> bool
 
 // The steps keep count at 345 or below, and leave what they like in ids from count on.
 
+#[tactic(auto, using(crate::proofs::Changes::open_off, crate::proofs::Changes::open_full, crate::proofs::Changes::opens))]
 fn open_id(register: Register, id: u32) -> Step
     requires { register.count ≤ 345 }
     ensures step { step_of result ≡ open_id (open_in register) id }

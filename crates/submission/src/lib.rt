@@ -232,6 +232,7 @@ fn is_wakeup(d: NodeState, effect: Effect) -> bool
 }
 
 // Whether the entry lets a step of so many bytes be done.
+#[tactic(auto, unfolding(crate::specs::Counting::entry_check))]
 fn entry_check(d: NodeState, effect: Effect, size: usize) -> Verdict
     requires { size ≤ max_submit }
     ensures { result ≡ entry_check d effect size }

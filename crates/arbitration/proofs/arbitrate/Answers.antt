@@ -24,8 +24,12 @@ has_room-requires c =
     let d = c.requires.drawn_at.1 in
     let t = place_small d in
     let f = four-frames d a.position (omega arith) t.1 in
-    let x : c.head_length.result + c.data_length.result ≡ length_of (held_at a.four a.position) = rw (c.head_length.ensures.0, c.data_length.ensures, c.held_in-op.ensures) in
-    (count-few a.s c.requires.drawn_at.0 d.drawn.valid, omega (arith, t.1), rw x (omega (arith, f.short, head_small (held_at a.four a.position))))
+    let x : c.head_length.result + c.data_length.result ≡ length_of (held_at a.four a.position) =
+    rw (c.head_length.ensures.0, c.data_length.ensures, c.held_in-op.ensures) in (
+      count-few a.s c.requires.drawn_at.0 d.drawn.valid,
+      omega (arith, t.1),
+      rw x (omega (arith, f.short, head_small (held_at a.four a.position))),
+    )
 
 pub overflow_mul-result : goal.overflow_mul-result
 overflow_mul-result c = let t = place_small c.requires.drawn_at.1 in omega (arith, t.0)
@@ -33,10 +37,16 @@ overflow_mul-result c = let t = place_small c.requires.drawn_at.1 in omega (arit
 pub returns-then-not-has_room : goal.returns-then-not-has_room
 returns-then-not-has_room c =
     let a = c.args in
-    let x : c.head_length.result + c.data_length.result ≡ length_of (held_at a.four a.position) = rw (c.head_length.ensures.0, c.data_length.ensures, c.held_in-op.ensures) in
+    let x : c.head_length.result + c.data_length.result ≡ length_of (held_at a.four a.position) =
+    rw (c.head_length.ensures.0, c.data_length.ensures, c.held_in-op.ensures) in
     let eight = c.well_formed.0.1.1.1.1.0.1.0.1 in
     let q = rw x at (sym c.has_room.ensures ∙ c.if-not-has_room.true) in
-    record { queues_after = λ l d. block-kept-ends QueueFull a.s l (4 * a.owner) a.payload.now a.queues.now d.drawn.block ∙ full-ended a.s l a.payload.now a.queues.now a.e a.owner a.position a.four a.ids eight c.requires.payload_len d q; at_value = refl }
+    record {
+      queues_after =
+          λ l d. block-kept-ends QueueFull a.s l (4 * a.owner) a.payload.now a.queues.now d.drawn.block
+          ∙ full-ended a.s l a.payload.now a.queues.now a.e a.owner a.position a.four a.ids eight c.requires.payload_len d q;
+      at_value = refl;
+    }
 
 pub overflow_mul-result-then-s-ge-LAST_ROUND : goal.overflow_mul-result-then-s-ge-LAST_ROUND
 overflow_mul-result-then-s-ge-LAST_ROUND c = let t = place_small c.requires.drawn_at.1 in omega (arith, t.0)
@@ -44,23 +54,43 @@ overflow_mul-result-then-s-ge-LAST_ROUND c = let t = place_small c.requires.draw
 pub returns-then-s-ge-LAST_ROUND : goal.returns-then-s-ge-LAST_ROUND
 returns-then-s-ge-LAST_ROUND c =
     let a = c.args in
-    let x : c.head_length.result + c.data_length.result ≡ length_of (held_at a.four a.position) = rw (c.head_length.ensures.0, c.data_length.ensures, c.held_in-op.ensures) in
+    let x : c.head_length.result + c.data_length.result ≡ length_of (held_at a.four a.position) =
+    rw (c.head_length.ensures.0, c.data_length.ensures, c.held_in-op.ensures) in
     let eight = c.well_formed.0.1.1.1.1.0.1.0.1 in
     let q = rw x at (sym c.has_room.ensures ∙ c.if-not-has_room.false) in
-    record { queues_after = λ l d. block-kept-ends RoundsUsedUp a.s l (4 * a.owner) a.payload.now a.queues.now d.drawn.block ∙ used_up_ended a.s l a.payload.now a.queues.now a.e a.owner a.position a.four a.ids eight c.requires.payload_len d q c.if-s-ge-LAST_ROUND.true; at_value = refl }
+    record {
+      queues_after =
+          λ l d. block-kept-ends RoundsUsedUp a.s l (4 * a.owner) a.payload.now a.queues.now d.drawn.block
+          ∙ used_up_ended a.s l a.payload.now a.queues.now a.e a.owner a.position a.four a.ids eight c.requires.payload_len d q
+          c.if-s-ge-LAST_ROUND.true;
+      at_value = refl;
+    }
 
 pub carry_out-requires : goal.carry_out-requires
 carry_out-requires c =
     let a = c.args in
-    let x : c.head_length.result + c.data_length.result ≡ length_of (held_at a.four a.position) = rw (c.head_length.ensures.0, c.data_length.ensures, c.held_in-op.ensures) in
+    let x : c.head_length.result + c.data_length.result ≡ length_of (held_at a.four a.position) =
+    rw (c.head_length.ensures.0, c.data_length.ensures, c.held_in-op.ensures) in
     let q = sym c.has_room.ensures ∙ c.if-not-has_room.false in
-    record { drawn_at = c.requires.drawn_at; round_lt_last_round = (c.if-s-ge-LAST_ROUND.false, c.requires.e_value); size_value = (x, q); payload_len = c.requires.payload_len }
+    record {
+      drawn_at = c.requires.drawn_at;
+      round_lt_last_round = (c.if-s-ge-LAST_ROUND.false, c.requires.e_value);
+      size_value = (x, q);
+      payload_len = c.requires.payload_len;
+    }
 
 pub returns : goal.returns
 returns c =
     let a = c.args in
-    let x : c.head_length.result + c.data_length.result ≡ length_of (held_at a.four a.position) = rw (c.head_length.ensures.0, c.data_length.ensures, c.held_in-op.ensures) in
+    let x : c.head_length.result + c.data_length.result ≡ length_of (held_at a.four a.position) =
+    rw (c.head_length.ensures.0, c.data_length.ensures, c.held_in-op.ensures) in
     let eight = c.well_formed.0.1.1.1.1.0.1.0.1 in
     let q = rw x at (sym c.has_room.ensures ∙ c.if-not-has_room.false) in
     let e = c.carry_out.ensures in
-    record { queues_after = λ l d. e.queues_after l d ∙ carried-ended a.s l a.payload.now a.queues.now a.e a.owner a.position a.four a.ids eight c.requires.payload_len d q c.if-s-ge-LAST_ROUND.false; at_value = e.at_value }
+    record {
+      queues_after =
+          λ l d. e.queues_after l d
+          ∙ carried-ended a.s l a.payload.now a.queues.now a.e a.owner a.position a.four a.ids eight c.requires.payload_len d q
+          c.if-s-ge-LAST_ROUND.false;
+      at_value = e.at_value;
+    }

@@ -56,10 +56,15 @@ tell_all-state-requires c =
     let n : c.data_length.result ≡ data_length (held_at a.four a.position) = c.data_length.ensures ∙ ap data_length c.held_in.ensures in
     let from = 2_048 * (4 * a.owner + a.position) in
     let k : from + c.data_length.result - from ≡ data_length (held_at a.four a.position) = add-sub_cancel_left _ _ ∙ n in
-    let b = length_part from (data_length (held_at a.four a.position)) a.payload.now (omega (arith, t.0, t.1, t.2, f.short, c.requires.payload_len.0)) in
+    let b =
+    length_part from (data_length (held_at a.four a.position)) a.payload.now
+    (omega (arith, t.0, t.1, t.2, f.short, c.requires.payload_len.0)) in
     record {
-      round_lt_last_round =
-          (c.requires.round_lt_last_round.0, c.requires.round_lt_last_round.1, tellable a.s c.requires.drawn_at.0 d.drawn.valid a.ids d.drawn.named);
+      round_lt_last_round = (
+        c.requires.round_lt_last_round.0,
+        c.requires.round_lt_last_round.1,
+        tellable a.s c.requires.drawn_at.0 d.drawn.valid a.ids d.drawn.named,
+      );
       pending_at = pending_at_lem d;
       writable = (f, rw k b, c.requires.size_value.0);
       count_value = (c.requires.size_value.1, c.requires.payload_len.1);
@@ -106,4 +111,10 @@ returns c =
     let g = c.tell_all-state.ensures in
     let own = c.entry-d.ensures in
     let eight = c.well_formed.0.1.1.1.1.0.1.0.1 in
-    record { queues_after = λ l d. done-ended a.s l a.payload.now a.queues.now a.e a.owner a.position a.four a.ids eight c.requires.payload_len d (rw x at c.requires.size_value.1) c.id_of.ensures c.is_errored.ensures (rw x at g.value) (rw own at c.block_without-block.ensures) (rw own at c.move_data.ensures) (rw k at g.queues_after); at_value = refl }
+    record {
+      queues_after =
+          λ l d. done-ended a.s l a.payload.now a.queues.now a.e a.owner a.position a.four a.ids eight c.requires.payload_len d
+          (rw x at c.requires.size_value.1) c.id_of.ensures c.is_errored.ensures (rw x at g.value)
+          (rw own at c.block_without-block.ensures) (rw own at c.move_data.ensures) (rw k at g.queues_after);
+      at_value = refl;
+    }

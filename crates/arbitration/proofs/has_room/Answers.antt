@@ -27,13 +27,16 @@ pub returns-then-d-owed_length-gt-BYTES_PER_QUEUE : goal.returns-then-d-owed_len
 returns-then-d-owed_length-gt-BYTES_PER_QUEUE c =
     let l = c.loop-j in
     let a = c.args in
-    sym (room_bad a.e a.s.nodes a.owner a.size l.j a.s.count (omega arith) (rw c.owed_length.ensures at c.if-d-owed_length-gt-BYTES_PER_QUEUE.true)) ∙ l.invariant.2
+    let h = rw c.owed_length.ensures at c.if-d-owed_length-gt-BYTES_PER_QUEUE.true in
+    sym (room_bad a.e a.s.nodes a.owner a.size l.j a.s.count (omega arith) (omega (arith, h))) ∙ l.invariant.2
 
 pub loop-j-preserved : goal.loop-j-preserved
 loop-j-preserved c =
     let l = c.loop-j in
     let a = c.args in
-    (omega arith, omega arith, rw (add-one l.j) (sym (room-good a.e a.s.nodes a.owner a.size l.j a.s.count (omega arith) (rw c.owed_length.ensures at c.if-d-owed_length-gt-BYTES_PER_QUEUE.false)) ∙ l.invariant.2))
+    let h = rw c.owed_length.ensures at c.if-d-owed_length-gt-BYTES_PER_QUEUE.false in
+    let now = room-good a.e a.s.nodes a.owner a.size l.j a.s.count (omega arith) (omega (arith, h)) in
+    (omega arith, omega arith, rw (add-one l.j) (sym now ∙ l.invariant.2))
 
 pub returns : goal.returns
 returns c =

@@ -15,7 +15,8 @@ pub shift-requires : goal.shift-requires
 shift-requires c =
     let l = c.loop-q in
     let w = (c.requires.frames (l.q + 1) (omega arith) (omega arith)).short in
-    let n : c.data_length-n.result ≡ data_length (held_at c.args.four (l.q + 1)) = c.data_length-n.ensures ∙ ap data_length c.held_in.ensures in
+    let n : c.data_length-n.result ≡ data_length (held_at c.args.four (l.q + 1)) =
+    c.data_length-n.ensures ∙ ap data_length c.held_in.ensures in
     (omega arith, omega arith, omega arith)
 
 pub loop-q-preserved : goal.loop-q-preserved
@@ -23,8 +24,14 @@ loop-q-preserved c =
     let l = c.loop-q in
     let a = c.args in
     let w = (c.requires.frames (l.q + 1) (omega arith) (omega arith)).short in
-    let n : c.data_length-n.result ≡ data_length (held_at a.four (l.q + 1)) = c.data_length-n.ensures ∙ ap data_length c.held_in.ensures in
-    (omega arith, omega arith, rw (c.shift.ensures, n, add-one (a.at + l.q), add-one l.q) (sym (data_next a.four a.at l.q a.last l.payload (omega arith)) ∙ l.invariant.2), ap length c.shift.ensures ∙ data_length-kept l.payload _ _ _ (omega arith) (omega arith) ∙ l.invariant.3)
+    let n : c.data_length-n.result ≡ data_length (held_at a.four (l.q + 1)) = c.data_length-n.ensures ∙ ap data_length c.held_in.ensures
+    in (
+      omega arith,
+      omega arith,
+      rw (c.shift.ensures, n, add-one (a.at + l.q), add-one l.q)
+          (sym (data_next a.four a.at l.q a.last l.payload (omega arith)) ∙ l.invariant.2),
+      ap length c.shift.ensures ∙ data_length-kept l.payload _ _ _ (omega arith) (omega arith) ∙ l.invariant.3,
+    )
 
 pub shape_of-payload : goal.shape_of-payload
 shape_of-payload c = c.loop-q.invariant.3

@@ -9,7 +9,8 @@ abbrev pub invariant-loop-q : goal.invariant-loop-q
 invariant-loop-q l =
     (l.position ≤ l.q)
     × (l.q ≤ l.last)
-    × (payload_without l.four l.at l.q (l.last - l.q) l.payload ≡ payload_without l.four l.at l.position (l.last - l.position) l.initial.payload)
+    × (payload_without l.four l.at l.q (l.last - l.q) l.payload
+    ≡ payload_without l.four l.at l.position (l.last - l.position) l.initial.payload)
     × (length l.payload ≡ length l.initial.payload)
 
 abbrev pub decreases-loop-q : goal.decreases-loop-q

@@ -9,4 +9,5 @@ use Rattle.arbitration.proofs.put_bus_error.Goals as goal
 pub returns : goal.returns
 returns c =
     let a = c.args in
-    laid_behind (BusError a.id a.code a.flag a.sender) [] a.buffer.now _ a.at c.requires.0 refl (omega arith) c.requires.1 c.write_bus_error.ensures.written
+    laid_behind (BusError a.id a.code a.flag a.sender) [] a.buffer.now _ a.at c.requires.0 refl (omega arith) c.requires.1
+    c.write_bus_error.ensures.written

@@ -9,4 +9,5 @@ use Rattle.arbitration.proofs.put_lost.Goals as goal
 pub returns : goal.returns
 returns c =
     let a = c.args in
-    laid_behind (ArbitrationLost a.id) [] a.buffer.now _ a.at c.requires.0 refl (omega arith) c.requires.1 c.write_arbitration_lost.ensures.written
+    laid_behind (ArbitrationLost a.id) [] a.buffer.now _ a.at c.requires.0 refl (omega arith) c.requires.1
+    c.write_arbitration_lost.ensures.written

@@ -1,7 +1,8 @@
 -- By the injection, then by whether the node sends, is Bus-Off, or neither.
 use Prim.Native.Nat.{◌≤◌}
 use Rattle.arbitration.proofs.Bytes.{byte_own, over_none}
-use Rattle.arbitration.proofs.Told.{confirm-lawful, error_lawful, legal_code, code_small, news_own, news_none, news_other, news_silent, news_error}
+use Rattle.arbitration.proofs.Told.{confirm-lawful, error_lawful, legal_code, code_small}
+use Rattle.arbitration.proofs.Told.{news_own, news_none, news_other, news_silent, news_error}
 use Rattle.operation.proofs.Sizes.{encode-length}
 use Rattle.operation.specs.Kinds.{id_of}
 use Rattle.operation.specs.declared.Operation.TheVariants.{Confirm, BusError}
@@ -31,7 +32,8 @@ returns-then-j-owner c =
 pub returns-then-off : goal.returns-then-off
 returns-then-off c =
     let a = c.args in
-    rw (news_none a.j a.owner a.off (held_in (content_of a.winner)) a.bytes.now c.in-NoError.is c.if-j-owner.false c.if-off.true) (sym (over_none _ _))
+    rw (news_none a.j a.owner a.off (held_in (content_of a.winner)) a.bytes.now c.in-NoError.is c.if-j-owner.false c.if-off.true)
+    (sym (over_none _ _))
 
 pub put_operation-requires : goal.put_operation-requires
 put_operation-requires c =
@@ -59,8 +61,12 @@ put_bus_error-requires c =
     let k = legal_code c.in-Injected.is c.requires.e_value.0 in
     let i : c.id_of-id.result ≤ 536_870_911 = rw c.id_of-id.ensures c.requires.writable.id in
     let n = news_error a.j a.owner a.off (held_in (content_of a.winner)) a.bytes.now c.in-Injected.is c.if-off-2.false in
-    let l = encode-length (BusError (id_of (held_in (content_of a.winner))) c.in-Injected.code (cond (eqb a.j c.in-Injected.detector) 1 2) (own (eqb a.j a.owner))) [] in
-    rw (c.flag_at.ensures, byte_own) (error_lawful c.id_of-id.result c.in-Injected.code (eqb a.j c.in-Injected.detector) (eqb a.j a.owner) i k, omega (arith, rw (n, l) at c.requires.bytes_in_bounds))
+    let flag = cond (eqb a.j c.in-Injected.detector) 1 2 in
+    let l = encode-length (BusError (id_of (held_in (content_of a.winner))) c.in-Injected.code flag (own (eqb a.j a.owner))) [] in
+    rw (c.flag_at.ensures, byte_own) (
+      error_lawful c.id_of-id.result c.in-Injected.code (eqb a.j c.in-Injected.detector) (eqb a.j a.owner) i k,
+      omega (arith, rw (n, l) at c.requires.bytes_in_bounds),
+    )
 
 pub returns-else-off : goal.returns-else-off
 returns-else-off c =

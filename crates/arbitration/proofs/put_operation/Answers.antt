@@ -6,4 +6,5 @@ use Rattle.arbitration.proofs.put_operation.Goals as goal
 pub returns : goal.returns
 returns c =
     let a = c.args in
-    laid_behind a.op a.bytes.now a.buffer.now _ a.at c.requires.op_value.0 c.requires.op_value.1 (omega (arith, c.requires.op_value.1, c.requires.op_value.2)) c.requires.op_in_bounds c.write.ensures.written
+    laid_behind a.op a.bytes.now a.buffer.now _ a.at c.requires.op_value.0 c.requires.op_value.1
+    (omega (arith, c.requires.op_value.1, c.requires.op_value.2)) c.requires.op_in_bounds c.write.ensures.written

@@ -4,6 +4,9 @@ use Rattle.arbitration.proofs.Attached.{count-few}
 use Rattle.arbitration.proofs.Ends.{wrong_ended, idle_ended, won-ended}
 use Rattle.arbitration.proofs.Given.{owner_small, first-drawn}
 use Rattle.arbitration.proofs.Wrong.{right_code}
+use Rattle.arbitration.specs.Injections.{is_wrong}
+use mathlib.Core.Bool.{true, false}
+use Rattle.std.proofs.lemmas.Grind.{common_steps}
 use Rattle.scan.specs.Winner.{owner_of}
 use Rattle.outcome.proofs.Endings.{block-kept-ends}
 use Rattle.outcome.specs.declared.Outcome.TheVariants.{BadInjection, Idle}
@@ -21,27 +24,47 @@ pub returns-then-is_wrong : goal.returns-then-is_wrong
 returns-then-is_wrong c =
     let a = c.args in
     let f = c.first_slot-at in
-    let q = sym c.is_wrong.ensures ∙ c.if-is_wrong.true in
-    record { queues_after = λ l d. block-kept-ends BadInjection a.s l f.result a.payload.now a.queues.now (rw f.ensures d.block) ∙ wrong_ended a.s l a.payload.now a.queues.now a.e q; at_value = f.ensures; slots_per_node_bound = omega (arith, f.ensures, owner_small c.requires.drawn.1) }
+    let q : is_wrong a.s a.e ≡ true = grind (arith, common_steps) in
+    record {
+      queues_after =
+          λ l d. block-kept-ends BadInjection a.s l f.result a.payload.now a.queues.now (rw f.ensures d.block)
+          ∙ wrong_ended a.s l a.payload.now a.queues.now a.e q;
+      at_value = f.ensures;
+      slots_per_node_bound = omega (arith, f.ensures, owner_small c.requires.drawn.1);
+    }
 
 pub arbitrate-requires : goal.arbitrate-requires
 arbitrate-requires c =
     let a = c.args in
-    let q = sym c.is_wrong.ensures ∙ c.if-is_wrong.false in
-    record { drawn_at = (c.requires.drawn.0, first-drawn c.requires.drawn.1 c.in-First.is); e_value = right_code a.s a.e q; payload_len = c.requires.payload_len }
+    let q : is_wrong a.s a.e ≡ false = grind (arith, common_steps) in
+    record {
+      drawn_at = (c.requires.drawn.0, first-drawn c.requires.drawn.1 c.in-First.is);
+      e_value = right_code a.s a.e q;
+      payload_len = c.requires.payload_len;
+    }
 
 pub returns-in-Nobody : goal.returns-in-Nobody
 returns-in-Nobody c =
     let a = c.args in
     let f = c.first_slot-at in
-    let q = sym c.is_wrong.ensures ∙ c.if-is_wrong.false in
-    record { queues_after = λ l d. block-kept-ends Idle a.s l f.result a.payload.now a.queues.now (rw f.ensures d.block) ∙ idle_ended a.s l a.payload.now a.queues.now a.e q (sym d.first ∙ c.in-Nobody.is); at_value = f.ensures; slots_per_node_bound = omega (arith, f.ensures, owner_small c.requires.drawn.1) }
+    let q : is_wrong a.s a.e ≡ false = grind (arith, common_steps) in
+    record {
+      queues_after =
+          λ l d. block-kept-ends Idle a.s l f.result a.payload.now a.queues.now (rw f.ensures d.block)
+          ∙ idle_ended a.s l a.payload.now a.queues.now a.e q (sym d.first ∙ c.in-Nobody.is);
+      at_value = f.ensures;
+      slots_per_node_bound = omega (arith, f.ensures, owner_small c.requires.drawn.1);
+    }
 
 pub returns-in-First : goal.returns-in-First
 returns-in-First c =
     let a = c.args in
     let g = c.in-First.is in
-    let q = sym c.is_wrong.ensures ∙ c.if-is_wrong.false in
+    let q : is_wrong a.s a.e ≡ false = grind (arith, common_steps) in
     let e = c.arbitrate.ensures in
     let o : c.arbitrate.result.at ≡ 4 * owner_of a.best = e.at_value ∙ rw g in
-    record { queues_after = λ l d. e.queues_after l (first-drawn d g) ∙ won-ended a.s l a.payload.now a.queues.now a.e q (sym d.first ∙ g); at_value = o; slots_per_node_bound = omega (arith, o, owner_small c.requires.drawn.1) }
+    record {
+      queues_after = λ l d. e.queues_after l (first-drawn d g) ∙ won-ended a.s l a.payload.now a.queues.now a.e q (sym d.first ∙ g);
+      at_value = o;
+      slots_per_node_bound = omega (arith, o, owner_small c.requires.drawn.1);
+    }

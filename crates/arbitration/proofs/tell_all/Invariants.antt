@@ -15,7 +15,8 @@ invariant-loop-p l =
     (l.initial.p ≤ l.p)
     × (l.p ≤ l.end)
     × (l.end ≤ 32)
-    × (over l.queues l.to (notices_but l.ids l.slot l.p (l.end - l.p)) ≡ over l.initial.queues l.initial.to (notices_but l.ids l.slot l.initial.p (l.end - l.initial.p)))
+    × (over l.queues l.to (notices_but l.ids l.slot l.p (l.end - l.p))
+    ≡ over l.initial.queues l.initial.to (notices_but l.ids l.slot l.initial.p (l.end - l.initial.p)))
     × (l.to + length (notices_but l.ids l.slot l.p (l.end - l.p)) ≤ length l.queues)
     × (length l.queues ≡ length l.initial.queues)
 
@@ -26,7 +27,8 @@ abbrev pub invariant-loop-j : goal.invariant-loop-j
 invariant-loop-j l =
     (l.j ≤ l.count)
     × (l.count ≤ 8)
-    × (entries_after l.e l.s.nodes l.owner l.size l.j (l.count - l.j) l.after ≡ entries_after l.e l.s.nodes l.owner l.size 0 l.count l.s.nodes)
+    × (entries_after l.e l.s.nodes l.owner l.size l.j (l.count - l.j) l.after
+    ≡ entries_after l.e l.s.nodes l.owner l.size 0 l.count l.s.nodes)
     × (queues_after l.e l.s.nodes l.owner l.position (held_in (content_of l.winner)) l.ids l.bytes l.j (l.count - l.j) l.queues
     ≡ queues_after l.e l.s.nodes l.owner l.position (held_in (content_of l.winner)) l.ids l.bytes 0 l.count l.initial.queues)
     × (length l.queues ≡ length l.initial.queues)

@@ -1,0 +1,42 @@
+-- Refusals 1 and 3 in front of the submission.
+use Rattle.bus_model.specs.Calls.{submitted, submit_in}
+use Rattle.bus_state.proofs.Validity.{valid-count, valid_node_at}
+use Rattle.slots.specs.Blocks.{block_at}
+use Rattle.bus_state.specs.Memory.{held}
+use Rattle.bus.proofs.Lending.{counted, refused-ends, past_tests, passed}
+use Rattle.outcome.proofs.Endings.{block-kept-ends}
+use Rattle.outcome.specs.Ended.{ended}
+use mathlib.Core.Path.{sym, ap, ◌∙◌}
+use Rattle.bus.proofs.submit.Goals as goal
+
+pub returns-in-Refused : goal.returns-in-Refused
+unfolding submit_in
+returns-in-Refused c =
+    let g = c.args in record {
+      ended = λ a h b.
+          let m = held g.s a g.payload.now g.queues.now in
+          block-kept-ends _ g.s a _ g.payload.now g.queues.now (sym b ∙ ap (block_at a) (sym c.first_slot-at.ensures.0))
+          ∙ sym (refused-ends (counted h) g.payload.now g.queues.now (submitted m g.node g.buffer.now) _
+          (sym c.test_lent.ensures ∙ c.in-Refused.is));
+      inside = c.first_slot-at.ensures.1;
+    }
+
+pub submit-requires : goal.submit-requires
+submit-requires c =
+    let p = c.args.payload.now in
+    let q = c.args.queues.now in
+    let m = held c.args.s c.requires.0 p q in
+    let v = past_tests (counted c.requires.1) p q (sym c.test_lent.ensures ∙ c.in_default.is) in
+    record { count_bound = ((valid-count _ _ v.valid).1, λ h. (valid_node_at _ _ v.valid c.args.node h).entry.fill); payload_len = (v.payload, v.queues) }
+
+pub returns : goal.returns
+unfolding submit_in
+returns c =
+    let g = c.args in record {
+      ended = λ a h b.
+          let m = held g.s a g.payload.now g.queues.now in
+          let v = past_tests (counted h) g.payload.now g.queues.now (sym c.test_lent.ensures ∙ c.in_default.is) in
+          c.submit.ensures.ended a (ap (block_at a) c.submit.ensures.place ∙ b)
+          ∙ sym (ap ended (passed m (submitted m g.node g.buffer.now) v.lent_well_lem v.valid));
+      inside = c.submit.ensures.inside;
+    }
