@@ -30,9 +30,8 @@ ln -sf $(name).$(major) $(1)/$(name)
 endef
 
 run:
-	$(RT) check sessions decode
-	./target/bin/sessions
-	./target/bin/decode samples/mixed.bin
+	cd crates/sessions && $(RT) run
+	cd crates/decode && $(RT) run -- ../../samples/mixed.bin
 
 check:
 	.ci/run quick
@@ -40,8 +39,10 @@ check:
 test:
 	.ci/run
 
-$(archive): crates.txt $(shell find crates -type f)
-	$(RT) staticlib kettlefrost
+# What rt makes, in a crate's out, is made from the crates, so it is not looked at.
+$(archive): crates.txt $(shell find crates -name out -prune -o -type f -print)
+	cd crates/kettlefrost_c && $(RT) lib
+	install -D -m 644 crates/kettlefrost_c/out/libkettlefrost_c.a $@
 
 # The same object code. No text relocations: the archive has to be position independent.
 $(shared): $(archive)
@@ -70,4 +71,4 @@ soak: $(archive)
 	tests/second/target/release/sessions --calls $(N) --seed $(SEED)
 
 clean:
-	rm -rf target tests/second/target bindings/rust/target
+	rm -rf target tests/second/target bindings/rust/target crates/*/out

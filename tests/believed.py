@@ -6,30 +6,43 @@ The first word of a file in crates/*/specs says what it is:
   Contract   a contract of an exported call names it, and no claim does
   Examples   tables that are computed
   Internal   contracts of internal functions and proofs name it
-Fails where a file is not what its first word says. Ends with the line 'believed: N checks'.
+Fails where a file is not what its first word says. The claims are about the functions of
+kettlefrost, and what C calls are those of kettlefrost_c: so it also fails where one of these does
+more than call the function of its name, or states its contract in other words.
+Ends with the line 'believed: N checks'.
 """
 import pathlib
 import re
 import sys
 
+from sources import bare, source
+
 ROOT = pathlib.Path(__file__).resolve().parent.parent
 CLAIMS = ["crates/claims/specs/Exported.antt", "crates/claims/specs/Demands.antt"]
-CONTRACTS = ["crates/kettlefrost/src/lib.rt", "crates/kettlefrost/src/register.rt"]
+LIBRARY, EXPORTS = "kettlefrost", "kettlefrost_c"
+EXPORTED = '# [ unsafe ( no_mangle ) ] pub extern "C" fn '
 WORDS = ["Believed", "Contract", "Examples", "Internal"]
 USE = re.compile(
-    r"^\s*(?:ghost )?use Rattle·(\w+?)(?:·specs)?\.specs\.(?:specs\.)?([\w.]+?)"
-    r"(?:\.\{.*\}| as [\w-]+);?$", re.M)
+    r"^\s*(?:ghost )?use Rattle\.(\w+)\.specs\.([\w.]+?)(?:\.\{.*\}| as [\w-]+)?;?$", re.M)
+BROUGHT = re.compile(r"^ghost use (\S+?)\.\{(.*)\};$", re.M)
+NAME = re.compile(r"[^\W\d][\w'-]*")
+
+
+def specs(crate, module):
+    return ROOT / "crates" / crate / "specs" / f"{module.split('.')[0]}.antt"
 
 
 def cited(path):
     """The specs files and the declarations of src that a file brings in."""
     files, types = set(), set()
-    for crate, module in USE.findall(path.read_text(encoding="utf-8")):
+    for crate, module in USE.findall(bare(path.read_text(encoding="utf-8"), path.suffix)):
         parts = module.split(".")
+        if not (ROOT / "crates" / crate).is_dir() or parts[0] == "contracts":
+            continue  # the toolchain's, and the signature of a function
         if parts[0] == "declared":
             types.add((crate, parts[1]))
         else:
-            files.add(ROOT / "crates" / crate / "specs" / f"{parts[0]}.antt")
+            files.add(specs(crate, module))
     return files, types
 
 
@@ -46,24 +59,47 @@ def closure(start):
     return files, types
 
 
-def exported(path):
-    """What the contracts of the exported functions of a source name, as files."""
-    text = path.read_text(encoding="utf-8")
-    names = {}
-    for line in re.findall(r"^ghost use Rattle·.*;$", text, re.M):
-        module = re.match(r"ghost use (Rattle·\S+?)\.\{(.*)\};", line)
-        if module:
-            for name in module[2].split(", "):
-                names[name] = line
-    used = set()
-    for contract in re.findall(r'extern "C" fn .*?\n\{', text, re.S):
-        for name in re.findall(r"[\w·-]+", contract):
-            if name in names:
-                used.add(names[name])
-    files = set()
-    for crate, module in USE.findall("\n".join(used)):
-        files.add(ROOT / "crates" / crate / "specs" / f"{module.split('.')[0]}.antt")
-    return files
+def functions(crate):
+    """The functions of a crate, each with its module and what the names in its clauses mean."""
+    for path in sorted((ROOT / "crates" / crate / "src").rglob("*.rt")):
+        text = path.read_text(encoding="utf-8")
+        meaning = {name: module for module, names in BROUGHT.findall(bare(text, ".rt"))
+                   for name in names.split(", ")}
+        for function in source(text).functions:
+            used = {name: meaning[name] for name in NAME.findall(function.contract)
+                    if name in meaning}
+            yield "" if path.stem == "lib" else path.stem, function, used
+
+
+def named_by(exports):
+    """The files that the contracts of the exports name."""
+    uses = "\n".join(f"use {module}" for _, _, used in exports for module in used.values())
+    return {specs(crate, module) for crate, module in USE.findall(uses)
+            if (ROOT / "crates" / crate).is_dir()}
+
+
+def thin(exports):
+    """What of the exports is more than a call of the library's function with the same clauses."""
+    library = {function.name: (module, function, used)
+               for module, function, used in functions(LIBRARY) if function.is_public}
+    for _, function, used in exports:
+        if function.name not in library:
+            yield f"{function.name}: {LIBRARY} has no such function"
+            continue
+        module, called, meant = library[function.name]
+        head = f"pub fn {function.name} ("
+        if not (called.contract.startswith(head)
+                and function.contract == called.contract.replace("pub fn ", EXPORTED, 1)):
+            yield f"{function.name}: not the signature and the clauses of {LIBRARY}"
+        if used != meant:
+            yield f"{function.name}: a name in its clauses is not that of {LIBRARY}"
+        path = " :: ".join(step for step in (LIBRARY, module, function.name) if step)
+        passed = " , ".join(re.findall(r"(\w+) : ", called.contract.split(" ) ")[0]))
+        if function.body != " ".join(f"{{ {path} ( {passed} ) }}".split()):
+            yield f"{function.name}: more than a call of {path}"
+    names = {function.name for _, function, _ in exports}
+    for name in sorted(name for name in library if name.startswith("kf_") and name not in names):
+        yield f"{name}: not exported"
 
 
 def lines(path):
@@ -82,10 +118,8 @@ def declaration(crate, name):
 
 def main():
     believed, types = closure(ROOT / name for name in CLAIMS)
-    contracts = set()
-    for name in CONTRACTS:
-        contracts |= exported(ROOT / name)
-    pinned = closure(contracts)[0] - believed
+    exports = list(functions(EXPORTS))
+    pinned = closure(named_by(exports))[0] - believed
     size = sum(lines(path) for path in believed)
     declared = sum(declaration(*one) for one in types)
     print(f"believed: {len(believed)} files, {size} lines, "
@@ -96,8 +130,8 @@ def main():
     print(f"named by exported contracts besides: {len(pinned)} files, {size} lines")
     for path in sorted(pinned):
         print(f"  {lines(path):4} {path.relative_to(ROOT)}")
-    checks = 0
-    wrong = []
+    checks = len(exports)
+    wrong = list(thin(exports))
     for path in sorted(ROOT.glob("crates/*/specs/*.antt")):
         if path.name == "Lib.antt":
             continue
@@ -113,7 +147,7 @@ def main():
             wrong.append(f"{path.relative_to(ROOT)} says {word}, and is {' or '.join(right)}")
     for line in wrong:
         print(f"WRONG: {line}")
-    if wrong:
+    if wrong or not exports:
         sys.exit(1)
     print(f"believed: {checks} checks")
 

@@ -22,7 +22,7 @@ ROOTED = re.compile(r"(?<![\w/.-])(?:crates|docs|tests|include)/[\w./*-]*\w")
 OF_CRATE = re.compile(rf"(?<![\w/.-])(?:{'|'.join(CRATES)})/[\w/-]*\w")
 LINK = re.compile(r"\]\(([^)#:]+)(?:#[^)]*)?\)")
 CODE = re.compile(r"`([^`]+)`")
-NAME = re.compile(r"[^\W\d][\w′-]*(?:(?:\.|::)[\w′-]+)*")
+NAME = re.compile(r"[^\W\d][\w'-]*(?:(?:\.|::)[\w'-]+)*")
 WORDS = {"ensures", "requires", "specs", "proofs", "src", "Meets", "os", "close"}  # of Rattle
 MEMBER = re.compile(r"^\s+(?:pub )?(\w+)(?=:|[,({ ]|$)", re.M)
 BLOCK = re.compile(r"^(?:pub )?(?:record|data|struct|enum) ([^\s({]+).*\n((?:[ \t]+.*\n)+)", re.M)
@@ -51,7 +51,8 @@ def defined(path):
 
 @functools.lru_cache(maxsize=None)
 def defined_anywhere():
-    paths = [path for end in ("antt", "rt") for path in (ROOT / "crates").rglob(f"*.{end}")]
+    paths = [path for part in ("src", "specs", "proofs") for folder in ROOT.glob(f"crates/*/{part}")
+             for path in folder.rglob("*") if path.suffix in (".antt", ".rt")]
     names = {path.name for path in paths}.union(CRATES)
     return names.union(*(defined(path) for path in paths))
 

@@ -2,7 +2,8 @@
 # What the program `decode` writes where there is nothing to decode, and that it decodes the sample as stored, and a short stream.
 set -eu
 cd "$(dirname "$0")/.."
-decode=target/bin/decode
+rt=${RT:-rt}
+decode=crates/decode/out/decode
 work=$(mktemp -d)
 trap 'rm -rf "$work"' EXIT
 checks=0
@@ -26,6 +27,16 @@ says() {
         exit 1
     }
 }
+
+# rt builds the program where it is not built. The sample that lies beside it, for rt ci to run it on, is the same file.
+(cd crates/decode && "$rt" run -- ../../samples/mixed.bin) >"$work/out" 2>"$work/err" || {
+    cat "$work/err"
+    echo 'decode: rt does not run it'
+    exit 1
+}
+cmp "$work/out" crates/decode/stdout
+cmp samples/mixed.bin crates/decode/data/mixed.bin
+checks=$((checks + 1))
 
 # What the sample does not show: a number shorter than its column, and fault 1.
 printf '\100\0\0\0\15\0\0\0\1\5\0\0\0\21\0\0\0\31\0\0\0\17\0\0\0\0\0\0\10\0\1\2\3\4\5\6\7\10\1\2\3' >"$work/short"

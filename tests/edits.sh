@@ -1,9 +1,13 @@
 #!/bin/sh
 # Each must-fail edit was refused where the fact stands that it breaks. An edit names the file in a comment line of its own,
-# '# refused at: FILE', from the crate's folder; the first error in the log that 'rt ci' or 'rt must-fail' left has to stand there,
-# and it must not be that a lemma before it failed, or that the proof's shape no longer fits the code.
+# '# refused at: FILE', from the crate's folder: the file of the code where only the search for a proof decides. What rt prints of
+# the edit has to stand there. It must not be that a proof names what the edit took away, nor that the prover met a limit of its own.
+# usage: tests/edits.sh [LOG]    LOG is what 'rt ci' or 'rt must-fail' printed; without it, rt must-fail is run.
 set -eu
 cd "$(dirname "$0")/.."
+rt=${RT:-rt}
+work=$(mktemp -d)
+trap 'rm -rf "$work"' EXIT
 checks=0
 failed=0
 
@@ -12,26 +16,34 @@ wrong() {
     failed=$((failed + 1))
 }
 
+if [ $# -eq 0 ]; then
+    "$rt" must-fail >"$work/log" || failed=1
+    grep -v ': refused, as it must be: ' "$work/log" || true
+    set -- "$work/log"
+fi
+sed -n 's/^rt: must-fail //p' "$1" >"$work/tried"
+
 for edit in crates/*/must-fail/*.edit; do
     crate=${edit#crates/}
     crate=${crate%%/*}
-    name=$(basename "$edit" .edit)
-    where=target/must-fail/$crate/$name
+    name=$crate/$(basename "$edit")
     named=$(sed -n 's/^# refused at: //p' "$edit")
+    line=$(grep -F "$name: " "$work/tried" | tail -n 1)
     checks=$((checks + 1))
     if [ -z "$named" ] || [ ! -f "crates/$crate/$named" ]; then
-        wrong "$crate/$name: no line '# refused at: FILE' that names a file of the crate"
-    elif [ ! -f "$where/.log" ]; then
-        wrong "$crate/$name: no log; run 'rt must-fail $crate'"
-    else
-        error=$(grep -m 1 '^[^ ]*: error' "$where/.log" || grep -m 1 '^note: [^ ]*:[0-9]*:[0-9]*:' "$where/.log" || true)
-        first=${error#*"/$where/"}
-        first=${first%%:*}
-        [ "$first" = "$named" ] || wrong "$crate/$name: refused at ${first:-no file}, and it says $named"
-        case $error in
-        *'was not admitted'* | *'that can be named from here'*) wrong "$crate/$name: the first error is no fact: $error" ;;
-        esac
+        wrong "$name: no line '# refused at: FILE' that names a file of the crate"
+        continue
     fi
+    said=${line#"$name: refused, as it must be: "}
+    case $line in
+    '') wrong "$name: nothing is said of it: run 'rt must-fail $crate'" ;;
+    "$name: refused, as it must be: note: "*": it is not proved that "* | "$name: refused, as it must be: "*": error: "*)
+        said=${said#note: }
+        said=${said#./}
+        [ "${said%%:*}" = "$named" ] || wrong "$name: refused at ${said%%:*}, and it says $named"
+        ;;
+    *) wrong "$line" ;;
+    esac
 done
 
 [ "$failed" -eq 0 ] || exit 1

@@ -1,8 +1,11 @@
 #!/bin/sh
-# The layout and the linters of all that is no Rattle: Rust, C, C++, shell and Python. A warning is an error.
+# The layout of the crates, and the layout and the linters of what is no Rattle: Rust, C, C++, shell and Python. A warning is an error.
 set -eu
 cd "$(dirname "$0")/.."
 . tests/need.sh
+rt=${RT:-rt}
+work=$(mktemp -d)
+trap 'rm -rf "$work"' EXIT
 checks=0
 
 fail() {
@@ -23,6 +26,18 @@ compiles() {
     "$@" -I include -fsyntax-only -Wall -Wextra -Wpedantic -Werror
 }
 
+# laid_out CRATE: rt fmt finds nothing to change, in a copy
+laid_out() {
+    mkdir "$work/copy"
+    for part in src specs proofs; do
+        if [ -d "$1/$part" ]; then cp -r "$1/$part" "$work/copy"; fi
+    done
+    (cd "$work/copy" && "$rt" fmt) >"$work/formatted" 2>&1 || echo "$1: rt fmt failed" >>"$work/formatted"
+    rm -rf "$work/copy"
+    cat "$work/formatted"
+    [ ! -s "$work/formatted" ]
+}
+
 # has_component WORD COMPONENT: of the Rust toolchain that runs. Debian's are of an older Rust than the crates need, so where it is missing and
 # cannot be had, its checks are left out, and that is said.
 has_component() {
@@ -37,6 +52,9 @@ need g++
 need flake8
 need mypy
 
+for crate in crates/*; do
+    passes "$crate" laid_out "$crate"
+done
 for package in bindings/rust tests/second; do
     manifest=$package/Cargo.toml
     if has_component fmt rustfmt; then

@@ -33,6 +33,7 @@ NAMED = re.compile(r"(?:pub )?(?:record|data|ruleset) ([^\s({:]+)")
 FIXITY = re.compile(r"infix[lr]? \S+ (.*)")
 GOES_ON = re.compile(r"\s*(?:[)\]}{]|deriving\b)")
 ATTRIBUTE = re.compile(r"\s*#\[.*\]$")
+TACTIC = re.compile(r"\s*#!?\[tactic\b.*\]$")  # how the search goes about a proof
 FUNCTION = re.compile(r"\bfn (\w+)")
 OF_SRC = re.compile(r"\b(?:struct|enum|const|static|type) (\w+)")
 CLAUSE = re.compile(r"\s(?:requires|ensures)\s")
@@ -94,7 +95,8 @@ def items(lines: List[str]) -> Iterator[List[str]]:
 
 
 def lines_of(text: str, suffix: str) -> List[str]:
-    return [line for line in bare(text, suffix).splitlines() if line.strip()]
+    return [line for line in bare(text, suffix).splitlines()
+            if line.strip() and not (suffix == ".rt" and TACTIC.match(line))]
 
 
 class Declarations:
@@ -167,7 +169,8 @@ class Declarations:
 def is_defined_by(name: str, clause: List[str]) -> bool:
     """Whether the left side of a clause is an application of an operator."""
     left = " ".join(clause).split(" = ")[0].split()
-    return "_" in name and all(part in left for part in name.split("_") if part)
+    hole = "◌" if "◌" in name else "_"  # as it was written before the port
+    return hole in name and all(part in left for part in name.split(hole) if part)
 
 
 def declarations(text: str) -> List[Declaration]:

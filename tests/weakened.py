@@ -2,12 +2,12 @@
 """Weakens the contract of every exported call, a clause at a time, and sees the claims refuse it.
 
 A must-fail edit proves its own crate again and no other, so that the claims lean on the contracts
-of kettlefrost is tried here, in a copy. There each exported call promises what it promises, or
-nothing: 'P' becomes 'P or true', and its proof gives the left case. Where the checker finds the
-proof by itself, 'P' becomes 'r is r'. Then kettlefrost is still proved, and claims is refused at
-every call.
+of kettlefrost is tried here, in a copy. There a clause of each exported call promises nothing:
+'P' becomes 'result is result', which the checker finds by itself, so its proof goes. Then
+kettlefrost is still proved, and claims is refused at every call.
 Ends with the line 'weakened: N checks'.
 """
+import os
 import pathlib
 import re
 import shutil
@@ -16,107 +16,107 @@ import sys
 import tempfile
 
 ROOT = pathlib.Path(__file__).resolve().parent.parent
+LAWS = "crates/claims/proofs/Exported.antt"
 EXPORTED = re.compile(r'extern "C" fn (\w+)\(')
-CLAUSE = re.compile(r"(ensures [^{]*\{ λ \w+\. ⌜ )(.*)( ⌝ \})")
-# What a proof answers at a return; and how a walk ends, by the number of clauses and the one that
-# is weakened.
-RETURNS = re.compile(r"^(returns(?:-\d+)? c =)(.*?)(?=\n\n)", re.M | re.S)
-WALKED = {
-    (1, 0): ("says ! e $", "says ! (inl e) $"),
-    (2, 0): ("says-both ! e f $", "says-both ! (inl e) f $"),
-    (2, 1): ("says-both ! e f $", "says-both ! e (inl f) $"),
-}
-LEFT = {
-    (1, 0): "left : {A : Type 0} → A → A ⊎ Unit {0}\nleft x = inl x",
-    (2, 0): "left : {A B : Type 0} → A × B → (A ⊎ Unit {0}) × B\nleft p = (inl (p .0), p .1)",
-    (2, 1): "left : {A B : Type 0} → A × B → A × (B ⊎ Unit {0})\nleft p = (p .0, inl (p .1))",
-}
+CLAUSE = re.compile(r"ensures (?:(\w+) )?\{ (.*) \}$", re.M)
+NOTHING = "result ≡ result"
+IS_REFL = "use mathlib.Core.Path.{refl}\n"
 
 
-def bring_in(path, line):
-    """Adds a line in front of the first that brings something in."""
-    text = path.read_text(encoding="utf-8")
-    at = re.search(r"^(ghost )?use ", text, re.M).start()
-    path.write_text(text[:at] + line + "\n" + text[at:], encoding="utf-8")
+def exported():
+    text = (ROOT / "crates/kettlefrost_c/src/lib.rt").read_text(encoding="utf-8")
+    return EXPORTED.findall(text)
 
 
-def weaken_proof(path, form):
-    text, count = RETURNS.subn(r"\1 left (\2)", path.read_text(encoding="utf-8"))
-    if count:
-        text = text.replace("\n\n", f"\n\n{LEFT[form]}\n\n", 1)
-    else:
-        old, new = WALKED[form]
-        if old not in text:
-            sys.exit(f"weakened: {path.parent.name}: a walk that does not end in '{old}'")
-        text = text.replace(old, new)
-    path.write_text(text, encoding="utf-8")
-    bring_in(path, "use mathlib.Core.Logic.{_⊎_, inl}")
+def copied(source, target):
+    """A check replaces what it keeps, and changes none: such a file gets a second name."""
+    if source.endswith(".oantt"):
+        try:
+            return os.link(source, target)
+        except OSError:
+            pass
+    return shutil.copy2(source, target)
 
 
-def weaken(crate, clause):
+def weaken_proof(path, clause, is_only):
+    """What is answered at a return goes, or of an answer with a field a clause this field."""
+    blocks = []
+    for block in path.read_text(encoding="utf-8").split("\n\n"):
+        returns = re.match(r"(?:--.*\n)*(?:pub )?(returns[^\s:]*) :", block)
+        if returns and (is_only or returns[1].endswith(f"-clause-{clause}")):
+            continue
+        if returns:
+            block = re.sub(rf"\b{clause} = .*?(?=; \w+ = | \}}$)", f"{clause} = refl", block,
+                           flags=re.M | re.S)
+        blocks.append(block)
+    text = "\n\n".join(blocks)
+    at = re.search(r"^use ", text, re.M).start()
+    path.write_text(text[:at] + IS_REFL + text[at:], encoding="utf-8")
+
+
+def weaken(crate, number, names):
     """Weakens this clause of every exported call that has it; gives the names of these calls."""
-    names = []
+    weakened = []
     for source in sorted((crate / "src").glob("*.rt")):
         module = "" if source.stem == "lib" else source.stem
         text = source.read_text(encoding="utf-8")
-        for name in EXPORTED.findall(text):
-            at = text.index(f"fn {name}(")
-            end = text.index("\n{", at)
-            found = list(CLAUSE.finditer(text, at, end))
-            if clause >= len(found):
+        for name in names:
+            at = text.find(f"pub fn {name}(")
+            if at < 0:
                 continue
-            names.append(name)
-            proof = crate / "proofs" / module / name / "Proof.antt"
-            here = found[clause]
-            weaker = f"({here[2]}) ⊎ Unit {{0}}" if proof.is_file() else "r ≡ r"
-            text = text[:here.start(2)] + weaker + text[here.end(2):]
+            end = text.index("\n{", at)
+            clauses = list(CLAUSE.finditer(text, at, end))
+            if number >= len(clauses):
+                continue
+            here = clauses[number]
+            text = text[:here.start(2)] + NOTHING + text[here.end(2):]
+            proof = crate / "proofs" / module / name / "Answers.antt"
             if proof.is_file():
-                weaken_proof(proof, (len(found), clause))
+                weaken_proof(proof, here[1], len(clauses) == 1)
+            weakened.append(name)
         source.write_text(text, encoding="utf-8")
-        if "⊎" in text:
-            bring_in(source, "ghost use mathlib.Core.Logic.{_⊎_};")
-    return names
+    return weakened
 
 
 def check(copy, crate):
-    run = subprocess.run(["rt", "check", crate], cwd=copy, text=True, check=False,
+    run = subprocess.run(["rt", "check"], cwd=copy / "crates" / crate, text=True, check=False,
                          stdout=subprocess.PIPE, stderr=subprocess.STDOUT)
     return run.returncode == 0, run.stdout
 
 
-def refused(log, law):
-    """Whether an error stands in the proof of a law."""
-    text = (ROOT / "crates/claims/proofs/Exported.antt").read_text(encoding="utf-8")
-    start = text.index(f"  {law} :")
-    first = text.count("\n", 0, start) + 1
-    last = first + text[start:].split("\n\n")[0].count("\n")
-    errors = re.findall(r"proofs/Exported\.antt:(\d+):\d+:", log)
-    return any(first <= int(line) <= last for line in errors)
+def law_of(name):
+    """The law that says what is claimed of a call, and the lines that it has."""
+    text = (ROOT / LAWS).read_text(encoding="utf-8")
+    law = re.search(rf"^  ({name.removeprefix('kf_')}[-_]holds) :", text, re.M)
+    if not law:
+        sys.exit(f"weakened: {LAWS} has no law of {name}")
+    first = text.count("\n", 0, law.start()) + 1
+    last = first + text[law.start():].split("\n\n")[0].count("\n")
+    return law[1], range(first, last + 1)
 
 
-def try_clause(clause):
+def try_clause(number):
     with tempfile.TemporaryDirectory() as folder:
         copy = pathlib.Path(folder)
         shutil.copy(ROOT / "crates.txt", copy)
-        shutil.copytree(ROOT / "crates", copy / "crates")
-        if (ROOT / "target").is_dir():
-            shutil.copytree(ROOT / "target", copy / "target",
-                            ignore=shutil.ignore_patterns("must-fail", "staticlib", "bin"))
-        names = weaken(copy / "crates/kettlefrost", clause)
+        shutil.copytree(ROOT / "crates", copy / "crates", copy_function=copied)
+        names = weaken(copy / "crates/kettlefrost", number, exported())
         proved, out = check(copy, "kettlefrost")
         if not proved:
-            print("\n".join(line for line in out.splitlines()
-                            if "error" in line or "not admitted" in line))
+            print(out[-4000:])
             sys.exit("weakened: kettlefrost is not proved with the weaker contracts")
         proved, out = check(copy, "claims")
-        log = (copy / "target/log/claims.out").read_text(encoding="utf-8")
+        errors = re.findall(r"^(?:\./)?proofs/Exported\.antt:(\d+):\d+: error", out, re.M)
         for name in names:
-            law = name.removeprefix("kf_").replace("_", "-") + "-holds"
-            if proved or not refused(log, law):
+            law, lines = law_of(name)
+            if proved or not any(int(line) in lines for line in errors):
                 print(out[-4000:])
-                sys.exit(f"weakened: claims holds with clause {clause + 1} of {name} weakened")
-            print(f"clause {clause + 1} of {name}: refused at {law}", flush=True)
-        return len(names)
+                sys.exit(f"weakened: claims holds with clause {number + 1} of {name} weakened")
+            print(f"clause {number + 1} of {name}: refused at {law}", flush=True)
+        return names
 
 
-print(f"weakened: {try_clause(0) + try_clause(1)} checks")
+first, second = try_clause(0), try_clause(1)
+if sorted(first) != sorted(exported()):
+    sys.exit("weakened: not the calls that are exported")
+print(f"weakened: {len(first + second)} checks")

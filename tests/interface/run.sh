@@ -1,13 +1,12 @@
 #!/bin/sh
 # The C interface: the header against the library, the calls under misuse, an installed copy.
-# The library has to be made: target/staticlib/libkettlefrost.a (rt staticlib kettlefrost).
+# The library has to be made: target/staticlib/libkettlefrost.a (make examples makes it).
 set -eu
 cd "$(dirname "$0")/../.."
 . tests/need.sh
 here=tests/interface
 library=target/staticlib/libkettlefrost.a
 header=include/kettlefrost.h
-rt=${RT:-rt}
 cc=${CC:-cc}
 work=$(mktemp -d)
 trap 'rm -rf "$work"' EXIT
@@ -110,8 +109,7 @@ has_no_variables() {
 
 # layout INCLUDES: the structs and constants of the header there
 layout() {
-    "$rt" mir kettlefrost >"$work/mir" &&
-        awk -f "$here/layout.awk" crates/*/src/lib.rt "$work/mir" >"$work/layout.c" &&
+    "$here/layout.py" >"$work/layout.c" &&
         strict "$cc" -std=c11 -fsyntax-only -I "$1" -I "$here" "$work/layout.c" &&
         echo "layout: $(grep -c '^[A-Z]*(' "$work/layout.c") checks"
 }

@@ -14,12 +14,12 @@ ROOT = pathlib.Path(__file__).resolve().parents[2]
 SIZES = "crates/low/specs/Sizes.antt"
 OTHERS = "crates/low/specs/Others.antt"
 LAWS = "crates/low/proofs/Laws.antt"
-PROOF = "crates/low/proofs/add/Proof.antt"
+PROOF = "crates/low/proofs/add/Answers.antt"
 CODE = "crates/low/src/lib.rt"
 EDIT = "crates/low/must-fail/off_by_one.edit"
 FILES = {
     SIZES: """-- Believed. Sizes.
-use Prim.Native.Nat.{ℕ, _+_}
+use Rattle.std.specs.Prelude.{ℕ, ◌+◌}
 
 -- how many
 abbrev pub count : ℕ
@@ -35,10 +35,10 @@ pub record Pair : Type 0 where
 """,
     OTHERS: "-- Internal.\n\nabbrev pub other : ℕ\nother = 1\n",
     LAWS: """-- Laws.
-use Rattle·low·specs.specs.Sizes.{twice}
-infixr 5 _&_
+use Rattle.low.specs.Sizes.{twice}
+infixr 5 ◌&◌
 
-abbrev pub _&_ {ℓ} : {A : Type ℓ} → A → A → A × A
+abbrev pub ◌&◌ {ℓ} : {A : Type ℓ} → A → A → A × A
 a & b = (a, b)
 
 module _ (n : ℕ)
@@ -53,13 +53,15 @@ module _ (n : ℕ)
   both : (n ≡ n) × (m ≡ m)
   both = (refl, refl)
 """,
-    PROOF: """use Rattle·low·proofs.proofs.add.Tie as tie
+    PROOF: """use Rattle.low.proofs.add.Goals as goal
 
-returns : tie.Need-returns
+returns : goal.returns
 returns c = refl
 """,
     CODE: """// Adding.
-ghost use mathlib.Core.Path.{_≡_};
+#![tactic(auto)]
+
+ghost use Rattle.std.specs.Prelude.{◌≡◌, ◌+◌, ◌<◌};
 use other::{
     First,
     Second,
@@ -73,8 +75,8 @@ pub struct Kept {
 }
 
 pub fn add(a: u32, b: u32) -> u32
-    requires { ⌜ a + b < 8 ⌝ }
-    ensures sum { λ r. ⌜ r ≡ _+_ {A = ℕ} a b ⌝ }
+    requires { a + b < 8 }
+    ensures { result ≡ a + b }
 {
     if a == LIMIT { b } else { a + b }
 }
@@ -87,7 +89,7 @@ impl Kept {
 }
 """,
     EDIT: """# one more
-# refused at: proofs/add/Proof.antt
+# refused at: proofs/add/Answers.antt
 file: src/lib.rt
 old: a + b }
 new: a }
@@ -95,9 +97,11 @@ new: a }
     "crates/high/src/lib.rt": "pub fn top() {\n    low::add(1, 2);\n}\n",
     "docs/page.md": "one\ntwo\n",
 }
+# Takes a second for each line of that file above 11.
 RT = """#!/bin/sh
-echo "rt: low proved ($(grep -c . crates/low/specs/Sizes.antt) s)"
-echo 'rt: high proved (1 s)'
+sleep $(($(grep -c . crates/low/specs/Sizes.antt) - 11))
+echo '== low'
+printf '== high\\n== summary\\n'
 """
 
 
@@ -170,6 +174,7 @@ class Landing(unittest.TestCase):
             (LAWS, "(refl, refl)", "(\n      refl, -- first\n      refl,\n    )"),
             (CODE, "(a: u32, b: u32)", "(\n    a: u32,\n    b: u32, // second\n)"),
             (CODE, "use other::{\n    First,", "use other::{"),
+            (CODE, "tactic(auto)", "tactic(auto, using(more))"),
             (EDIT, "# one more\n", ""),
         ]), ({}, []))
 
@@ -202,10 +207,11 @@ class Landing(unittest.TestCase):
 
     def test_proof_alone(self):
         self.assertEqual(self.moved([
-            (LAWS, "omega (arith, k)", "omega arith"), (PROOF, "c = refl", "c = rw (c .e)"),
-        ]), ({"proofs": ".2.."}, ["- changed in low: `twice-grows` (Laws); `returns` (add.Proof)"]))
+            (LAWS, "omega (arith, k)", "omega arith"), (PROOF, "c = refl", "c = rw (c.e)"),
+        ]), ({"proofs": ".2.."},
+             ["- changed in low: `twice-grows` (Laws); `returns` (add.Answers)"]))
         self.commit({LAWS: FILES[LAWS].replace("unfolding twice", "unfolding twice other")})
-        self.assertIn("- changed in low: `twice-grows` (Laws); `returns` (add.Proof)\n",
+        self.assertIn("- changed in low: `twice-grows` (Laws); `returns` (add.Answers)\n",
                       self.printed("HEAD~2"))
 
     def test_statement_and_what_is_around_it(self):
@@ -217,25 +223,25 @@ class Landing(unittest.TestCase):
 
     def test_what_unfolds_has_no_proof(self):
         self.assertEqual(self.moved([(LAWS, "= (a, b)", "= (b, a)")]),
-                         ({"laws": "0100"}, ["- changed in low: `_&_` (Laws)"]))
+                         ({"laws": "0100"}, ["- changed in low: `◌&◌` (Laws)"]))
         self.commit({LAWS: FILES[LAWS].replace("infixr 5", "infixr 6")})
-        self.assertIn("- changed in low: `_&_` (Laws)\n", self.printed("HEAD~2"))
+        self.assertIn("- changed in low: `◌&◌` (Laws)\n", self.printed("HEAD~2"))
 
     def test_need_of_another_function_has_not_moved(self):
-        self.commit({PROOF: None, "crates/low/proofs/sub/Proof.antt":
+        self.commit({PROOF: None, "crates/low/proofs/sub/Answers.antt":
                      FILES[PROOF].replace("add", "sub")})
         self.assertIn("| laws | 1 | 0 | 0 | 1 | 3 |", self.printed())
-        self.commit({"crates/low/proofs/sub/Proof.antt": None,
-                     "crates/high/proofs/sub/Proof.antt":
-                     FILES[PROOF].replace("add", "sub").replace("·low·", "·high·")})
-        self.assertIn("- moved from low (sub.Proof) to high (sub.Proof): `returns`\n",
+        self.commit({"crates/low/proofs/sub/Answers.antt": None,
+                     "crates/high/proofs/sub/Answers.antt":
+                     FILES[PROOF].replace("add", "sub").replace(".low.", ".high.")})
+        self.assertIn("- moved from low (sub.Answers) to high (sub.Answers): `returns`\n",
                       self.printed())
 
     def test_promises_and_code(self):
         changed = "- changed in low: `{}` (lib)".format
         for old, new, row, name in [
                 ("a + b < 8", "a + b < 9", "promises", "add"),
-                ("{A = ℕ}", "", "promises", "add"),
+                ("≡ a + b", "≡ b + a", "promises", "add"),
                 ("b: u32", "b: u64", "promises", "add"),
                 ("{ a + b }", "{ b + a }", "code", "add"),
                 ("text: &[u8]", "bytes: &[u8]", "inner promises", "Kept::put"),
@@ -267,7 +273,7 @@ class Landing(unittest.TestCase):
     def test_seconds(self):
         self.commit({SIZES: FILES[SIZES] + "-- 1\n-- 2\n-- 3\n"})
         run = self.run_landing("--times", "HEAD~1", "HEAD")
-        self.assertIn("| low | 11 | 14 |\n| others (1) | 1 | 1 |\n| `rt check` in all | ",
+        self.assertIn("| low | 0 | 3 |\n| others (1) | 0 | 0 |\n| `rt all verdict` in all | ",
                       run.stdout)
         self.assertEqual((run.returncode, list(self.clones.iterdir())), (0, []))
         self.set_rt("#!/bin/sh\necho 'rt: FAILED: low'\nexit 1\n")
