@@ -3,7 +3,7 @@
 -- toolchain's words, `x.now` is what is behind a reference, `a.0`, `a.1.0` .. are the parameters in their order, `e.0` .. the same
 -- when the function returns, and `Meets` says that every run of a routine returns and keeps a contract.
 -- Assumes nothing.
-use Rattle.std.specs.Prelude.{◌≡◌, [], length, take, drop}
+use Rattle.std.specs.Prelude.{◌≡◌, [], take, drop}
 use seplogic.Ra.Ura.{Ura}
 use base.Logic.{emp}
 use mir.Syntax.{Callee}

@@ -1,8 +1,7 @@
 -- Believed. What the calls for C answer, from what the calls of the library answer.
 -- Assumes nothing.
 use Rattle.std.specs.Prelude.{ℕ, ◌-◌, List, cond, eqb, length}
-use Rattle.operation.specs.declared.Operation.{Operation}
-use Rattle.decoder.specs.Reading.{read_at, data_at}
+use Rattle.decoder.specs.Reading.{data_at}
 use Rattle.decoder.specs.declared.Reading.{Reading}
 use Rattle.decoder.specs.declared.Reading.TheVariants.{AtEnd, Faulty, Read}
 use Rattle.encoder.specs.Writing.{written_number, write_outcome, written_of}

@@ -302,11 +302,7 @@ fn write_named(f: FlatOperation, payload: &[u8], buffer: &mut [u8]) -> Written
 }
 
 // Writes an operation with its data to the front of a buffer.
-pub fn kf_write(
-    operation: FlatOperation,
-    payload: &[u8],
-    buffer: &mut [u8],
-) -> WriteAnswer
+pub fn kf_write(operation: FlatOperation, payload: &[u8], buffer: &mut [u8]) -> WriteAnswer
     ensures answer { result ≡ write_answer (named operation) (length payload.now) (length buffer.old) }
     ensures written { buffer.new ≡ buffer_after_write (named operation) payload.now buffer.old }
 {

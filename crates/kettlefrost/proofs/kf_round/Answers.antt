@@ -1,5 +1,4 @@
 -- Where the slots are not 32, refusal 1.
-use Rattle.plain_bus.specs.Round.{injection_from}
 use Rattle.bus_state.specs.Memory.{held}
 use Rattle.kettlefrost.proofs.Answered.{wrong_round}
 use Rattle.kettlefrost.proofs.kf_round.Goals as goal
@@ -7,4 +6,4 @@ use Rattle.kettlefrost.proofs.kf_round.Goals as goal
 pub returns-then-slots-ne-SLOTS : goal.returns-then-slots-ne-SLOTS
 returns-then-slots-ne-SLOTS c =
     let m = held c.args.state c.args.slots.now c.args.payload.now c.args.queues.now in
-    rw (c.wrong_memory.ensures, wrong_round m c.if-slots-ne-SLOTS.true (injection_from c.args.injected c.args.code c.args.detector))
+    rw (c.wrong_memory.ensures, wrong_round m c.if-slots-ne-SLOTS.true)

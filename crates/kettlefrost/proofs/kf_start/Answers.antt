@@ -7,4 +7,4 @@ use Rattle.kettlefrost.proofs.kf_start.Goals as goal
 pub returns-then-slots-ne-SLOTS : goal.returns-then-slots-ne-SLOTS
 returns-then-slots-ne-SLOTS c =
     let m = held (new_state 0) c.args.slots.now c.args.payload.now c.args.queues.now in
-    rw (c.no_start.ensures, wrong_start m c.if-slots-ne-SLOTS.true c.args.count)
+    rw (c.no_start.ensures, wrong_start m c.if-slots-ne-SLOTS.true)

@@ -6,4 +6,4 @@ use Rattle.kettlefrost.proofs.kf_submit.Goals as goal
 pub returns-then-slots-ne-SLOTS : goal.returns-then-slots-ne-SLOTS
 returns-then-slots-ne-SLOTS c =
     let m = held c.args.state c.args.slots.now c.args.payload.now c.args.queues.now in
-    rw (c.wrong_memory.ensures, wrong_submit m c.if-slots-ne-SLOTS.true c.args.node c.args.buffer.now)
+    rw (c.wrong_memory.ensures, wrong_submit m c.if-slots-ne-SLOTS.true)

@@ -10,7 +10,15 @@ loop-j-init c = rw (c.attached-count.ensures.0, c.first_key-key.ensures, sub-zer
 pub loop-j-preserved : goal.loop-j-preserved
 loop-j-preserved c =
     let n = nodes-next c.args.s c.args.slots.now c.loop-j.j c.attached-count.result c.loop-j.key c.loop-j-test.true in
-    rw (c.frames_key-key.ensures, c.entry_key-entered.ensures, c.frame_count-n.ensures.0, c.round_of-round.ensures, c.entries_of-nodes.ensures, add-one, n) c.loop-j.invariant
+    rw (
+      c.frames_key-key.ensures,
+      c.entry_key-entered.ensures,
+      c.frame_count-n.ensures.0,
+      c.round_of-round.ensures,
+      c.entries_of-nodes.ensures,
+      add-one,
+      n,
+    ) c.loop-j.invariant
 
 pub returns : goal.returns
 returns c =

@@ -10,9 +10,15 @@ use Rattle.open_frames.proofs.apply.Goals as goal
 pub returns-in-Enter : goal.returns-in-Enter
 returns-in-Enter c =
     let a = c.args in
-    record { step = c.enter_operation.ensures.step ∙ sym (ap (λ (w : Call). item_step w (open_in a.register) (operation a.op [])) c.in-Enter.is); within = c.enter_operation.ensures.within }
+    record {
+      step = c.enter_operation.ensures.step ∙ sym (ap (λ (w : Call). item_step w (open_in a.register) (operation a.op [])) c.in-Enter.is);
+      within = c.enter_operation.ensures.within;
+    }
 
 pub returns-in-Read : goal.returns-in-Read
 returns-in-Read c =
     let a = c.args in
-    record { step = c.read_operation.ensures.step ∙ sym (ap (λ (w : Call). item_step w (open_in a.register) (operation a.op [])) c.in-Read.is); within = c.read_operation.ensures.within }
+    record {
+      step = c.read_operation.ensures.step ∙ sym (ap (λ (w : Call). item_step w (open_in a.register) (operation a.op [])) c.in-Read.is);
+      within = c.read_operation.ensures.within;
+    }

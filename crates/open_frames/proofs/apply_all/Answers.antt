@@ -16,7 +16,10 @@ pub returns-in-AtEnd : goal.returns-in-AtEnd
 returns-in-AtEnd c =
     let a = c.args in
     let e = sym c.read.ensures ∙ c.in-AtEnd.is in
-    record { step = ap step_of c.unchanged.ensures ∙ sym (turn_of a.call a.buffer.now c.loop-next.cursor.at (open_in c.loop-next.kept) e) ∙ c.loop-next.invariant.1; within = rw c.unchanged.ensures c.loop-next.invariant.0 }
+    record {
+      step = ap step_of c.unchanged.ensures ∙ sym (turn_of a.call a.buffer.now c.loop-next.cursor.at (open_in c.loop-next.kept) e) ∙ c.loop-next.invariant.1;
+      within = rw c.unchanged.ensures c.loop-next.invariant.0;
+    }
 
 pub loop-next-smaller-in-Faulty : goal.loop-next-smaller-in-Faulty
 loop-next-smaller-in-Faulty c =
@@ -26,15 +29,20 @@ loop-next-smaller-in-Faulty c =
 pub loop-next-preserved-in-Faulty : goal.loop-next-preserved-in-Faulty
 loop-next-preserved-in-Faulty c =
     let a = c.args in
-    let e = sym c.read.ensures ∙ c.in-Faulty.is in
-    (c.loop-next.invariant.0, sym (turn_of a.call a.buffer.now c.loop-next.cursor.at (open_in c.loop-next.kept) e) ∙ c.loop-next.invariant.1)
+    let e = sym c.read.ensures ∙ c.in-Faulty.is in (
+      c.loop-next.invariant.0,
+      sym (turn_of a.call a.buffer.now c.loop-next.cursor.at (open_in c.loop-next.kept) e) ∙ c.loop-next.invariant.1,
+    )
 
 pub returns-in_default : goal.returns-in_default
 returns-in_default c =
     let a = c.args in
     let e = sym c.read.ensures ∙ c.in-Read.is in
     let n = c.apply-after in
-    record { step = refused (item_step a.call) (items_of (drop c.in-Read.next.at a.buffer.now)) n.result (search rules) n.ensures.step ∙ sym (turn_of a.call a.buffer.now c.loop-next.cursor.at (open_in c.loop-next.kept) e) ∙ c.loop-next.invariant.1; within = n.ensures.within }
+    record {
+      step = refused (item_step a.call) (items_of (drop c.in-Read.next.at a.buffer.now)) n.result (search rules) n.ensures.step ∙ sym (turn_of a.call a.buffer.now c.loop-next.cursor.at (open_in c.loop-next.kept) e) ∙ c.loop-next.invariant.1;
+      within = n.ensures.within;
+    }
 
 pub loop-next-smaller : goal.loop-next-smaller
 loop-next-smaller c =
@@ -45,5 +53,7 @@ pub loop-next-preserved : goal.loop-next-preserved
 loop-next-preserved c =
     let a = c.args in
     let e = sym c.read.ensures ∙ c.in-Read.is in
-    let n = c.apply-after in
-    (n.ensures.within, goes_on_lem (item_step a.call) (items_of (drop c.in-Read.next.at a.buffer.now)) n.result c.in-Done.is n.ensures.step ∙ sym (turn_of a.call a.buffer.now c.loop-next.cursor.at (open_in c.loop-next.kept) e) ∙ c.loop-next.invariant.1)
+    let n = c.apply-after in (
+      n.ensures.within,
+      goes_on_lem (item_step a.call) (items_of (drop c.in-Read.next.at a.buffer.now)) n.result c.in-Done.is n.ensures.step ∙ sym (turn_of a.call a.buffer.now c.loop-next.cursor.at (open_in c.loop-next.kept) e) ∙ c.loop-next.invariant.1,
+    )

@@ -12,8 +12,11 @@ loop-i-init c =
     (c.requires, c.well_formed.0.1.1.0.1.0.1, refl)
 
 pub loop-i-preserved : goal.loop-i-preserved
-loop-i-preserved c =
-    (omega arith, simp length-set c.loop-i.invariant.1, rw (add-one c.loop-i.i) (zeroed c.loop-i.ids c.loop-i.i c.loop-i.invariant.1 c.loop-i-test.true ∙ c.loop-i.invariant.2))
+loop-i-preserved c = (
+  omega arith,
+  simp length-set c.loop-i.invariant.1,
+  rw (add-one c.loop-i.i) (zeroed c.loop-i.ids c.loop-i.i c.loop-i.invariant.1 c.loop-i-test.true ∙ c.loop-i.invariant.2),
+)
 
 pub returns-then-register-eq0 : goal.returns-then-register-eq0
 returns-then-register-eq0 c =

@@ -21,8 +21,11 @@ returns-then-ids-i-gt-MAX_EXTENDED_ID c =
 pub loop-i-preserved : goal.loop-i-preserved
 loop-i-preserved c =
     let r = c.args.register in
-    let k = c.well_formed.0.1.1.0.1.0.1 in
-    (omega arith, omega arith, rw (add-one c.loop-i.i) (sym (above_later r.ids r.count (omega arith) c.loop-i.i c.loop-i-test.true c.if-ids-i-gt-MAX_EXTENDED_ID.false) ∙ c.loop-i.invariant.2))
+    let k = c.well_formed.0.1.1.0.1.0.1 in (
+      omega arith,
+      omega arith,
+      rw (add-one c.loop-i.i) (sym (above_later r.ids r.count (omega arith) c.loop-i.i c.loop-i-test.true c.if-ids-i-gt-MAX_EXTENDED_ID.false) ∙ c.loop-i.invariant.2),
+    )
 
 pub returns : goal.returns
 returns c =

@@ -17,8 +17,10 @@ returns-then-ids-i c =
 pub loop-i-preserved : goal.loop-i-preserved
 loop-i-preserved c =
     let r = c.args.register in
-    let k = c.well_formed.0.1.1.0.1.0.1 in
-    (omega arith, rw (add-one c.loop-i.i) (sym (place_later r.ids r.count (omega arith) c.args.id c.loop-i.i c.loop-i-test.true c.if-ids-i.false) ∙ c.loop-i.invariant.1))
+    let k = c.well_formed.0.1.1.0.1.0.1 in (
+      omega arith,
+      rw (add-one c.loop-i.i) (sym (place_later r.ids r.count (omega arith) c.args.id c.loop-i.i c.loop-i-test.true c.if-ids-i.false) ∙ c.loop-i.invariant.1),
+    )
 
 pub returns : goal.returns
 returns c =

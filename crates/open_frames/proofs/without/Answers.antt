@@ -12,11 +12,17 @@ loop-i-init c =
 
 pub loop-i-preserved : goal.loop-i-preserved
 loop-i-preserved c =
-    let r = c.args.register in
-    (omega arith, simp length-set c.loop-i.invariant.1, moved c.loop-i.ids r.count c.loop-i.i (omega arith) (omega arith) ∙ c.loop-i.invariant.2)
+    let r = c.args.register in (
+      omega arith,
+      simp length-set c.loop-i.invariant.1,
+      moved c.loop-i.ids r.count c.loop-i.i (omega arith) (omega arith) ∙ c.loop-i.invariant.2,
+    )
 
 pub returns : goal.returns
 returns c =
     let r = c.args.register in
     let e : r.count - 1 ≡ c.loop-i.i = omega arith in
-    record { left = taken_out r c.args.place c.loop-i.ids (r.count - 1) c.requires.1 (omega arith) c.loop-i.invariant.1 (ap (λ (n : ℕ). cut n (take r.count c.loop-i.ids)) e ∙ c.loop-i.invariant.2); within = omega arith }
+    record {
+      left = taken_out r c.args.place c.loop-i.ids (r.count - 1) c.requires.1 (omega arith) c.loop-i.invariant.1 (ap (λ (n : ℕ). cut n (take r.count c.loop-i.ids)) e ∙ c.loop-i.invariant.2);
+      within = omega arith;
+    }

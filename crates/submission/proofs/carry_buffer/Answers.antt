@@ -32,7 +32,10 @@ returns-in-End c =
     let l = c.loop-step in
     let s = c.args.buffer.now in
     let e = four-slots c.args.four c.well_formed.1.1.1.1.1.0.1.0.1 in
-    record { outcome = (refl, refl); memory = λ slots. rw c.state_left.ensures (sym (memory-end s l.at c.args.k _ (next-end s l.at c.step_at.ensures c.in-End.is)) ∙ l.invariant.gives slots ∙ rw e) }
+    record {
+      outcome = (refl, refl);
+      memory = λ slots. rw c.state_left.ensures (sym (memory-end s l.at c.args.k _ (next-end s l.at c.step_at.ensures c.in-End.is)) ∙ l.invariant.gives slots ∙ rw e);
+    }
 
 pub overflow_sub-end : goal.overflow_sub-end
 overflow_sub-end c = omega (arith, (next-taken c.args.buffer.now c.loop-step.at c.step_at.ensures c.in-At.is).forward)
@@ -78,7 +81,10 @@ wake-requires c =
     let t = next-taken c.args.buffer.now c.loop-step.at c.step_at.ensures c.in-At.is in
     let g = c.loop-step.invariant in
     let o = g.stood in
-    record { count_bound = (o.begun.few, omega (arith, o.counted, o.within, o.short), turn_room g _ t c.in-Wake.is (ne_eqb _ _ c.if-d-ne-BUS_OFF-2.true)); queues_len = g.queues }
+    record {
+      count_bound = (o.begun.few, omega (arith, o.counted, o.within, o.short), turn_room g _ t c.in-Wake.is (ne_eqb _ _ c.if-d-ne-BUS_OFF-2.true));
+      queues_len = g.queues;
+    }
 
 pub overflow_add-wakeups : goal.overflow_add-wakeups
 overflow_add-wakeups c =

@@ -43,22 +43,26 @@ loop-step-smaller-then-wakeups_have_room c = let t = next-taken c.args.buffer.no
 
 pub loop-step-preserved-then-wakeups_have_room : goal.loop-step-preserved-then-wakeups_have_room
 loop-step-preserved-then-wakeups_have_room c =
-    wakeup-checked c.loop-step.invariant _ (next-taken c.args.buffer.now c.loop-step.at c.step_at.ensures c.in-At.is) (sym c.is_wakeup.ensures ∙ c.if-is_wakeup.true) (sym c.wakeups_have_room.ensures ∙ c.if-wakeups_have_room.true)
+    let t = next-taken c.args.buffer.now c.loop-step.at c.step_at.ensures c.in-At.is in
+    wakeup-checked c.loop-step.invariant _ t (sym c.is_wakeup.ensures ∙ c.if-is_wakeup.true) (sym c.wakeups_have_room.ensures ∙ c.if-wakeups_have_room.true)
 
 pub returns-else-wakeups_have_room : goal.returns-else-wakeups_have_room
 returns-else-wakeups_have_room c =
-    sym (full-checked c.loop-step.invariant _ (next-taken c.args.buffer.now c.loop-step.at c.step_at.ensures c.in-At.is) (sym c.is_wakeup.ensures ∙ c.if-is_wakeup.true) (sym c.wakeups_have_room.ensures ∙ c.if-wakeups_have_room.false))
+    let t = next-taken c.args.buffer.now c.loop-step.at c.step_at.ensures c.in-At.is in
+    sym (full-checked c.loop-step.invariant _ t (sym c.is_wakeup.ensures ∙ c.if-is_wakeup.true) (sym c.wakeups_have_room.ensures ∙ c.if-wakeups_have_room.false))
 
 pub entry_check-requires : goal.entry_check-requires
 entry_check-requires c = omega (arith, (next-taken c.args.buffer.now c.loop-step.at c.step_at.ensures c.in-At.is).within)
 
 pub returns-in-FourPending : goal.returns-in-FourPending
 returns-in-FourPending c =
-    sym (entry-refused c.loop-step.invariant _ (next-taken c.args.buffer.now c.loop-step.at c.step_at.ensures c.in-At.is) FourPending (sym c.is_wakeup.ensures ∙ c.if-is_wakeup.false) (sym c.entry_check.ensures ∙ c.in-FourPending.is) (λ v. refl))
+    let t = next-taken c.args.buffer.now c.loop-step.at c.step_at.ensures c.in-At.is in
+    sym (entry-refused c.loop-step.invariant _ t FourPending (sym c.is_wakeup.ensures ∙ c.if-is_wakeup.false) (sym c.entry_check.ensures ∙ c.in-FourPending.is) (λ v. refl))
 
 pub returns-in-QueueFull : goal.returns-in-QueueFull
 returns-in-QueueFull c =
-    sym (entry-refused c.loop-step.invariant _ (next-taken c.args.buffer.now c.loop-step.at c.step_at.ensures c.in-At.is) QueueFull (sym c.is_wakeup.ensures ∙ c.if-is_wakeup.false) (sym c.entry_check.ensures ∙ c.in-QueueFull.is) (λ v. refl))
+    let t = next-taken c.args.buffer.now c.loop-step.at c.step_at.ensures c.in-At.is in
+    sym (entry-refused c.loop-step.invariant _ t QueueFull (sym c.is_wakeup.ensures ∙ c.if-is_wakeup.false) (sym c.entry_check.ensures ∙ c.in-QueueFull.is) (λ v. refl))
 
 pub entry_after-d-requires : goal.entry_after-d-requires
 entry_after-d-requires c =
@@ -70,4 +74,5 @@ loop-step-smaller c = let t = next-taken c.args.buffer.now c.loop-step.at c.step
 
 pub loop-step-preserved : goal.loop-step-preserved
 loop-step-preserved c =
-    entry-checked c.loop-step.invariant _ (next-taken c.args.buffer.now c.loop-step.at c.step_at.ensures c.in-At.is) (sym c.is_wakeup.ensures ∙ c.if-is_wakeup.false) (sym c.entry_check.ensures ∙ c.in-Goes.is) c.entry_after-d.ensures
+    let t = next-taken c.args.buffer.now c.loop-step.at c.step_at.ensures c.in-At.is in
+    entry-checked c.loop-step.invariant _ t (sym c.is_wakeup.ensures ∙ c.if-is_wakeup.false) (sym c.entry_check.ensures ∙ c.in-Goes.is) c.entry_after-d.ensures

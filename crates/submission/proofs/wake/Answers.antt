@@ -18,7 +18,10 @@ pub wake_at-requires : goal.wake_at-requires
 wake_at-requires c =
     let l = c.loop-j in
     let a = c.args in
-    record { j_bound = (omega arith, omega arith, (room-here a.s.nodes a.k (a.u + 1) l.j a.s.count (omega arith) l.invariant.2).0); queues_len = l.invariant.4 ∙ c.requires.queues_len }
+    record {
+      j_bound = (omega arith, omega arith, (room-here a.s.nodes a.k (a.u + 1) l.j a.s.count (omega arith) l.invariant.2).0);
+      queues_len = l.invariant.4 ∙ c.requires.queues_len;
+    }
 
 pub loop-j-preserved : goal.loop-j-preserved
 loop-j-preserved c =

@@ -23,8 +23,11 @@ returns-then-fill_woken-gt-BYTES_PER_QUEUE c =
 pub loop-j-preserved : goal.loop-j-preserved
 loop-j-preserved c =
     let l = c.loop-j in
-    let a = c.args in
-    (omega arith, omega arith, rw (add-one l.j) (sym (room-good a.s.nodes a.k a.u l.j a.s.count (omega arith) (rw (← c.fill_woken.ensures) c.if-fill_woken-gt-BYTES_PER_QUEUE.false)) ∙ l.invariant.2))
+    let a = c.args in (
+      omega arith,
+      omega arith,
+      rw (add-one l.j) (sym (room-good a.s.nodes a.k a.u l.j a.s.count (omega arith) (rw (← c.fill_woken.ensures) c.if-fill_woken-gt-BYTES_PER_QUEUE.false)) ∙ l.invariant.2),
+    )
 
 pub returns : goal.returns
 returns c =
