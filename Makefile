@@ -44,10 +44,11 @@ $(archive): crates.txt $(shell find crates -name out -prune -o -type f -print)
 	cd crates/kettlefrost_c && $(RT) lib
 	install -D -m 644 crates/kettlefrost_c/out/libkettlefrost_c.a $@
 
-# The same object code. No text relocations: the archive has to be position independent.
+# The same object code. No text relocations: the archive has to be position independent. Hard links: rt refuses others in a repository.
 $(shared): $(archive)
 	$(CC) -shared -Wl,-soname,$(name).$(major) -Wl,-z,defs -Wl,-z,text -Wl,--whole-archive $< -Wl,--no-whole-archive -o $@
-	$(call links,$(@D))
+	ln -f $@ $(@D)/$(name).$(major)
+	ln -f $@ $(@D)/$(name)
 
 examples: $(archive) $(shared)
 	examples/run.sh

@@ -37,7 +37,8 @@
 //! Name this folder as a path dependency. The crate links the static library
 //! `libkettlefrost.a`: from the folder that the environment variable
 //! `KETTLEFROST_LIB` names (an absolute path), else from `target/staticlib` of the
-//! repository, where `make examples` puts it. It runs on 64-bit targets.
+//! repository, where `make target/staticlib/libkettlefrost.a` puts it. It runs on 64-bit
+//! targets.
 //!
 //! [`Bus`], [`Register`], [`Operation`] and [`operations`] are what a program needs.
 //! Under them [`raw`] has the calls as they are for C, over a state by value and

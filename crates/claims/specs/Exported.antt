@@ -1,5 +1,6 @@
--- Believed. The exported functions meet the demands, whatever they are called with: a statement a function, about its parameters, its
--- result and what its lent memory holds when it returns. A function that did less, or asked more of its caller, would not meet it. Of the
+-- Believed. The public calls meet the demands, whatever they are called with: a statement a function, about its parameters, its
+-- result and what its lent memory holds when it returns. A function that did less, or asked more of its caller, would not meet it. C calls
+-- them through kettlefrost_c, where each exported function is one call of the function of its name and keeps the same clauses. Of the
 -- toolchain's words, `x.now` is what is behind a reference, `a.0`, `a.1.0` .. are the parameters in their order, `e.0` .. the same
 -- when the function returns, and `Meets` says that every run of a routine returns and keeps a contract.
 -- Assumes nothing.

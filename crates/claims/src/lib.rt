@@ -1,2 +1,2 @@
-// No code: the customer's demands (specs/Demands, specs/RoundTrip), proved of the exported functions (specs/Exported).
+// No code: the customer's demands (specs/Demands, specs/RoundTrip), proved of the public calls (specs/Exported).
 #![tactic(auto)]

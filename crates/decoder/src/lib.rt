@@ -65,6 +65,7 @@ pub fn code_of(t: &[u8]) -> u32
 }
 
 // Fault 4 before fault 5.
+#[tactic(auto, unfolding(crate::specs::Front::verdict))]
 fn give_verdict(sized: bool, lawful: bool, op: Operation, size: usize) -> Front
     ensures { result ≡ verdict (not sized) lawful op size }
 {
@@ -95,6 +96,7 @@ pub fn read_format_error(t: &[u8]) -> Front
     )
 }
 
+#[tactic(auto, unfolding(crate::specs::Front::shape_of, crate::specs::Front::judge, crate::specs::Front::verdict))]
 pub fn read_can(t: &[u8]) -> Front
     ensures { result ≡ judge (length t.now) (shape_of can t.now) }
 {
@@ -299,6 +301,7 @@ fn read_operation(t: &[u8]) -> Front
 }
 
 // The length of the operation that the rest of a buffer starts with; 0 at the end, and where fault 1 or 2 stands there.
+#[tactic(auto, unfolding(crate::specs::Front::whole_length))]
 pub fn whole_length(s: &[u8]) -> usize
     ensures { result ≡ whole_length s.now }
 {
