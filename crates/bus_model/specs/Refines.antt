@@ -1,4 +1,4 @@
--- Internal. What is proved of each call (proofs: start-refines, submit-refines, round-refines, collect-refines): with memory as its types
+-- Internal. What is proved of each call (proofs: start_refines, submit_refines, round_refines, collect_refines): with memory as its types
 -- and sizes say, and valid, it is the plain call on the view.
 -- Assumes nothing.
 use Rattle.std.specs.Prelude.{ℕ, ◌≤◌, ◌<◌, ◌^◌, ◌≡◌, true, length}

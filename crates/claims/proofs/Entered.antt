@@ -1,5 +1,5 @@
--- What a call knows of its parameters on entry: a state by value and lent slots are of their types. The slots are seen behind their reference, which
--- an update of ghost state opens and closes before the call runs.
+-- What a call knows of its parameters on entry: a state by value and lent slots are of their types. The slots are seen behind their
+-- reference, which an update of ghost state opens and closes before the call runs.
 --     sees_mut, sees_shr    the slots behind a `&mut [Slot]`, and behind a `&[Slot]`
 --     state-and-slots       the state and the slots that three calls have as their first parameters
 --     sixth_bytes           the bytes of the buffer that kf_submit is given

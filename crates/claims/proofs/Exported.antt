@@ -1,5 +1,5 @@
--- The demands hold of the exported functions: each follows from the function's own contract, whose theorem gives it, and from what the types
--- of its parameters say.
+-- The demands hold of the public calls: each follows from the function's own contract, whose theorem gives it, and from what the
+-- types of its parameters say.
 -- Assumes nothing.
 use mathlib.Core.Path.{refl}
 use mathlib.Core.List.{List, [], ◌∷◌}
@@ -69,7 +69,7 @@ use Rattle.claims.proofs.Entered.{OfTypes, slots_mut, slots_shr, sixth_bytes, fi
 use Rattle.claims.proofs.Machine.{flat-typed}
 use Rattle.kettlefrost.specs.contracts.FlatOperation as F
 
--- ---- of the exported functions
+-- ---- of the public calls
 
 -- the types behind the first two
 abbrev others : List RattleType → List RattleType

@@ -1,4 +1,4 @@
--- A memory whose state and slots are machine values of their types is `Typed`, where the lent memory has its sizes.
+-- A memory whose state and slots are machine values of their types is a `TypedMemory`, where the lent memory has its sizes.
 -- Assumes nothing.
 use Prim.Native.Nat.{ℕ, zero, suc, ◌<◌}
 use mathlib.Core.Path.{◌≡◌}

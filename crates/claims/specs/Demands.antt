@@ -1,5 +1,5 @@
 -- Believed. The customer's demands (00, item 4): what is demanded of each call of the bus and of the registers, by what it is given, what
--- it answers and what it leaves; and demand 3 of whole sessions of such calls. That the exported functions meet these is in Exported. The
+-- it answers and what it leaves; and demand 3 of whole sessions of such calls. That the public calls meet these is in Exported. The
 -- rules that they are held to are those of the plain bus.
 -- Assumes nothing.
 use Rattle.std.specs.Prelude.{ℕ, ◌+◌, ◌<◌, ◌≡◌, ◌⊎◌, List, [], ◌∷◌, ◌++◌, map, true, false, cond, eqb, length, get_or, set, replicate}

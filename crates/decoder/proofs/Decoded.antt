@@ -1,5 +1,5 @@
 -- What is found is encoded back: the bytes of an operation that was read are the operation's bytes, for all ten kinds. Each kind
--- goes field by field from its last to its first (`number-then`, `byte-then`); code and length are the same argument for all.
+-- goes field by field from its last to its first (`number_then`, `byte_then`); code and length are the same argument for all.
 -- Assumes nothing.
 use mathlib.Core.Path.{◌≡◌, refl, sym, ap, ◌∙◌, subst}
 use mathlib.Core.Bool.{Bool, true, false, cond}

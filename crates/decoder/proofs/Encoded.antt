@@ -1,5 +1,5 @@
 -- What is encoded is found: the bytes of an operation that meets its rules, whatever follows them. The length and the data are
--- the same argument for every kind (`found-by`); a kind adds only that its fields are read back.
+-- the same argument for every kind (`found_by`); a kind adds only that its fields are read back.
 -- Assumes nothing.
 use mathlib.Core.Path.{◌≡◌, refl, ap, ◌∙◌}
 use mathlib.Core.Bool.{Bool, true, false, cond, ◌||◌}

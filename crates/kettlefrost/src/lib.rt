@@ -1,4 +1,4 @@
-// The calls for C and Rust: the proved calls over records of plain numbers and lent buffers.
+// The public calls, over records of plain numbers and lent buffers. kettlefrost_c exports them to C.
 #![tactic(auto)]
 
 pub mod layout;

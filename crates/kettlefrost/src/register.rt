@@ -1,4 +1,4 @@
-// The register of open frames for C and Rust.
+// The register of open frames, as public calls.
 ghost use Rattle.std.specs.Prelude.{◌≡◌};
 ghost use Rattle.plain_bus.specs.Register.{new_register, enter, read};
 ghost use Rattle.open_frames.specs.Record.{open_in, record_of, answered};

@@ -1,4 +1,4 @@
-// The lent slots, four at a time and all at once. These are for the bus crate above only: each has a requires that its caller must meet.
+// The lent slots, four at a time and all at once. These are for the crates above only: each has a requires that its caller must meet.
 #![tactic(auto)]
 
 ghost use Rattle.std.specs.Prelude.{◌≡◌, [], ◌∷◌, map, ◌+◌, ◌≤◌, length};
