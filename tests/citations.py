@@ -1,10 +1,10 @@
 #!/usr/bin/env python3
 """Fails where a document names a file or a definition that does not exist.
 
-In all documents: paths from the root (crates/..), files of a crate (decoder/proofs/Forward, and of
-its specs decoder/Front), links. In SPECIFICATION.md and READING.md: a name in backticks is defined
-in some crate, and in a table with a column "File" in a file that its row has there. The name `A.b`
-is the field or the case b of A.
+In all documents: paths from the root (crates/..), files of a crate (decoder/proofs/Forward, of its
+specs decoder/Front, of its edits decoder/kind_five), links. In SPECIFICATION.md and READING.md: a
+name in backticks is defined in some crate, and in a table with a column "File" in a file that its
+row has there. The name `A.b` is the field or the case b of A.
 Ends with the line 'citations: N checks'.
 """
 import functools
@@ -33,7 +33,8 @@ def files_of(cited):
     crate, _, rest = cited.partition("/")
     if crate not in CRATES:
         return sorted(ROOT.glob(cited))
-    paths = [ROOT / "crates" / (base + end) for base in (f"{crate}/specs/{rest}", cited)
+    bases = (f"{crate}/specs/{rest}", cited, f"{crate}/must-fail/{rest}")
+    paths = [ROOT / "crates" / (base + end) for base in bases
              for end in (".antt", ".rt", ".edit", "")]
     return [path for path in paths if path.exists()]
 
