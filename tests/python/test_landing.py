@@ -97,9 +97,9 @@ new: a }
     "crates/high/src/lib.rt": "pub fn top() {\n    low::add(1, 2);\n}\n",
     "docs/page.md": "one\ntwo\n",
 }
-# Takes a second for each line of that file above 11.
+# Takes two seconds for each line of that file above 11.
 RT = """#!/bin/sh
-sleep $(($(grep -c . crates/low/specs/Sizes.antt) - 11))
+sleep $(($(grep -c . crates/low/specs/Sizes.antt) * 2 - 22))
 echo '== low'
 printf '== high\\n== summary\\n'
 """
@@ -273,8 +273,9 @@ class Landing(unittest.TestCase):
     def test_seconds(self):
         self.commit({SIZES: FILES[SIZES] + "-- 1\n-- 2\n-- 3\n"})
         run = self.run_landing("--times", "HEAD~1", "HEAD")
-        self.assertRegex(run.stdout, r"\| low \| [01] \| [345] \|\n\| others \(1\) \| [01] \| [01] \|\n"
-                                     r"\| `rt all verdict` in all \| ")
+        self.assertRegex(run.stdout, "\n".join([
+            r"\| low \| [01] \| [345] \|", r"\| others \(1\) \| [01] \| [01] \|",
+            r"\| `rt all verdict` in all \| "]))
         self.assertEqual((run.returncode, list(self.clones.iterdir())), (0, []))
         self.set_rt("#!/bin/sh\necho 'rt: FAILED: low'\nexit 1\n")
         run = self.run_landing("--times", "HEAD~1")
