@@ -46,8 +46,8 @@ def weaken_proof(path, clause, is_only):
         if returns and (is_only or returns[1].endswith(f"-clause-{clause}")):
             continue
         if returns:
-            block = re.sub(rf"\b{clause} = .*?(?=; \w+ = | \}}$)", f"{clause} = refl", block,
-                           flags=re.M | re.S)
+            block = re.sub(rf"\b{clause} = .*?(?=;\s+\w+ = |;?\s*\}}\s*\Z)", f"{clause} = refl",
+                           block, flags=re.S)
         blocks.append(block)
     text = "\n\n".join(blocks)
     at = re.search(r"^use ", text, re.M).start()
