@@ -274,7 +274,7 @@ class Landing(unittest.TestCase):
         self.commit({SIZES: FILES[SIZES] + "-- 1\n-- 2\n-- 3\n"})
         run = self.run_landing("--times", "HEAD~1", "HEAD")
         self.assertRegex(run.stdout, "\n".join([
-            r"\| low \| [01] \| [345] \|", r"\| others \(1\) \| [01] \| [01] \|",
+            r"\| low \| [012] \| [6-9] \|", r"\| others \(1\) \| [012] \| [012] \|",
             r"\| `rt all verdict` in all \| "]))
         self.assertEqual((run.returncode, list(self.clones.iterdir())), (0, []))
         self.set_rt("#!/bin/sh\necho 'rt: FAILED: low'\nexit 1\n")
