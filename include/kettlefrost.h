@@ -30,7 +30,8 @@
  * each is given the state that the last one handed back: threads that share a bus need a lock of their own, held from
  * reading the state to storing the new one. The same goes for a register.
  *
- * The library is built for x86-64 and needs of the C library memcpy, memmove and memset alone.
+ * The library is built for x86-64, for processors from x86-64-v2 on, and needs of the C library memcpy, memmove and
+ * memset alone.
  *
  * What is asked of the caller: a pointer leads to as much memory as the length after it says (a null pointer will do
  * for length 0), and memory that a call may write overlaps nothing else that it is given. Slots, payload and queues may

@@ -11,7 +11,6 @@ import glob
 import json
 import os
 import re
-import shutil
 import subprocess
 import sys
 import tempfile
@@ -53,7 +52,7 @@ def contracts():
     found = {}
     for path in glob.glob("crates/*/src/**/*.rt", recursive=True):
         crate = path.split("/")[1]
-        fn, kinds, holder = None, None, ""
+        fn, holder = None, ""
         for line in open(path, encoding="utf-8"):
             m = re.match(r"impl(?:<[^>]*>)? (\w+)", line)
             if m:
@@ -314,7 +313,6 @@ def convert(crate, folder, names):
             fn.left.append(f"{mine} has another form")
             keep.append(["-- LEFT " + x for x in d])
             continue
-        args = m2.group(1).split()
         rest = body[m2.end() :]
         if rest.strip() == "search rules" and not unfolding:
             continue
