@@ -7,10 +7,12 @@ use native.Mathlib.Omega.{arith}
 use lib.ListN.{drop}
 use Rattle.operation.specs.declared.Operation.{Operation}
 use Rattle.operation.specs.declared.Operation.TheVariants.{FormatError, CanTransmit, FdTransmit, XlTransmit, Confirm, ArbitrationLost, BusError, Configuration, Status, Wakeup}
+use Rattle.std.proofs.Common.{Option, None, Some, Result, Ok, Err}
+use Rattle.decoder.specs.Front.{fault_number}
 use Rattle.decoder.specs.Reading.{read_at}
-use Rattle.decoder.specs.Stream.{Item, operation, fault, items_of}
+use Rattle.decoder.specs.Stream.{Item, operation, fault, item_of, items_of}
 use Rattle.decoder.specs.declared.Reading.{Reading}
-use Rattle.decoder.specs.declared.Reading.TheVariants.{AtEnd, Faulty, Read}
+use Rattle.decoder.specs.declared.Fault.{Fault}
 use Rattle.decoder.proofs.Items.{ItemsBy, next-item}
 use Rattle.plain_bus.specs.Refusal.{RegisterRefusal, register_full, register_differs}
 use Rattle.plain_bus.specs.Register.{Register, Update, updated, rejected, updates, enter_item, read_item}
@@ -28,22 +30,28 @@ use mathlib.Core.Logic.{⊎_elim}
 
 -- the steps from a position on, by what is read there
 module _ (step : Register → Item → Update) where
-  abbrev pub onward : List ℕ → Register → Reading → Update
-  onward s r AtEnd = updated r
-  onward s r (Faulty number next) = updates step (items_of (drop next.at s)) (updated r)
-  onward s r (Read op next) = updates step (items_of (drop next.at s)) (step r (operation op []))
+  abbrev pub blind_step : Register → Result Operation Fault → Update
+  blind_step r (Ok op) = step r (operation op [])
+  blind_step r (Err f) = updated r
+
+  abbrev pub onward : List ℕ → Register → Option Reading → Update
+  onward s r None = updated r
+  onward s r (Some x) = updates step (items_of (drop x.next.at s)) (blind_step r x.item)
 
   turn : ((r : Register) (number : ℕ) (bytes : List ℕ) → step r (fault number bytes) ≡ updated r)
       → ((r : Register) (op : Operation) (bytes : List ℕ) → step r (operation op bytes) ≡ step r (operation op []))
-      → (s : List ℕ) (at : ℕ) (r : Register) {x : Reading} → read_at s at ≡ x
+      → (s : List ℕ) (at : ℕ) (r : Register) {x : Option Reading} → read_at s at ≡ x
       → updates step (items_of (drop at s)) (updated r) ≡ onward s r x
   unfolding updates
   turn faults operations s at r {x} e = go x (next-item s at e)
     where
-      go : (x : Reading) → ItemsBy s at x → updates step (items_of (drop at s)) (updated r) ≡ onward s r x
-      go AtEnd p = rw p.1
-      go (Faulty number next) p = rw p.items (ap (updates step (items_of (drop next.at s))) (faults r number _))
-      go (Read op next) p = rw p.items (ap (updates step (items_of (drop next.at s))) (operations r op _))
+      one : (i : Result Operation Fault) (bytes : List ℕ) → step r (item_of i bytes) ≡ blind_step r i
+      one (Ok op) bytes = operations r op bytes
+      one (Err f) bytes = faults r (fault_number f) bytes
+
+      go : (x : Option Reading) → ItemsBy s at x → updates step (items_of (drop at s)) (updated r) ≡ onward s r x
+      go None p = rw p.1
+      go (Some x) p = rw p.items (ap (updates step (items_of (drop x.next.at s))) (one x.item _))
 
   stays : (is : List Item) (x : RegisterRefusal) → rejected x ≡ updates step is (rejected x)
   unfolding updates
@@ -90,7 +98,7 @@ unfolding enter_item read_item
 passes calls.Enter r number bytes = refl
 passes calls.Read r number bytes = refl
 
-pub turn_of : (call : Call) (s : List ℕ) (at : ℕ) (r : Register) {x : Reading} → read_at s at ≡ x
+pub turn_of : (call : Call) (s : List ℕ) (at : ℕ) (r : Register) {x : Option Reading} → read_at s at ≡ x
     → updates (item_step call) (items_of (drop at s)) (updated r) ≡ onward (item_step call) s r x
 turn_of call = turn (item_step call) (passes call) (blind call)
 

@@ -351,11 +351,10 @@ fn apply_all(call: Call, register: Register, buffer: &[u8]) -> Step
 {
     let mut kept = register;
     let mut cursor = Cursor { at: 0 };
-    loop {
-        match cursor.read(buffer) {
-            Reading::AtEnd => return unchanged(kept),
-            Reading::Faulty { number: _, next } => cursor = next,
-            Reading::Read { op, next } => {
+    while let Some(Reading { item, next }) = cursor.read(buffer) {
+        match item {
+            Err(_) => cursor = next,
+            Ok(op) => {
                 let after = apply(call, kept, op);
                 let verdict = after.verdict;
                 let Verdict::Done = verdict else {
@@ -366,6 +365,7 @@ fn apply_all(call: Call, register: Register, buffer: &[u8]) -> Step
             }
         }
     }
+    unchanged(kept)
 }
 
 // 0 from count on, and off 0 or 1.

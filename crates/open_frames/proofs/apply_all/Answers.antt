@@ -9,51 +9,46 @@ use borrow.Author.Rules.{rules}
 use native.Mathlib.Omega.{arith}
 use Rattle.open_frames.proofs.apply_all.Goals as goal
 
-pub loop-next-init : goal.loop-next-init
-loop-next-init c = (c.requires, refl)
+pub loop-item-init : goal.loop-item-init
+loop-item-init c = (c.requires, refl)
 
-pub returns-in-AtEnd : goal.returns-in-AtEnd
-returns-in-AtEnd c =
-    let a = c.args in
-    let e = sym c.read.ensures ∙ c.in-AtEnd.is in
-    record {
-      step = ap step_of c.unchanged.ensures ∙ sym (turn_of a.call a.buffer.now c.loop-next.cursor.at (open_in c.loop-next.kept) e) ∙ c.loop-next.invariant.1;
-      within = rw c.unchanged.ensures c.loop-next.invariant.0;
-    }
-
-pub loop-next-smaller-in-Faulty : goal.loop-next-smaller-in-Faulty
-loop-next-smaller-in-Faulty c =
-    let n = next-item c.args.buffer.now c.loop-next.cursor.at (sym c.read.ensures ∙ c.in-Faulty.is) in
+pub loop-item-smaller-in-Err : goal.loop-item-smaller-in-Err
+loop-item-smaller-in-Err c =
+    let n = next-item c.args.buffer.now c.loop-item.cursor.at (sym c.read.ensures ∙ c.in-Some.is) in
     omega (arith, n.further, n.within)
 
-pub loop-next-preserved-in-Faulty : goal.loop-next-preserved-in-Faulty
-loop-next-preserved-in-Faulty c =
+pub loop-item-preserved-in-Err : goal.loop-item-preserved-in-Err
+loop-item-preserved-in-Err c =
     let a = c.args in
-    let e = sym c.read.ensures ∙ c.in-Faulty.is in (
-      c.loop-next.invariant.0,
-      sym (turn_of a.call a.buffer.now c.loop-next.cursor.at (open_in c.loop-next.kept) e) ∙ c.loop-next.invariant.1,
-    )
+    let t = rw c.in-Err.is at (turn_of a.call a.buffer.now c.loop-item.cursor.at (open_in c.loop-item.kept) (sym c.read.ensures ∙ c.in-Some.is)) in
+    (c.loop-item.invariant.0, sym t ∙ c.loop-item.invariant.1)
 
-pub returns-in_default : goal.returns-in_default
-returns-in_default c =
+pub returns-in_default-verdict : goal.returns-in_default-verdict
+returns-in_default-verdict c =
     let a = c.args in
-    let e = sym c.read.ensures ∙ c.in-Read.is in
+    let t = rw c.in-Ok.is at (turn_of a.call a.buffer.now c.loop-item.cursor.at (open_in c.loop-item.kept) (sym c.read.ensures ∙ c.in-Some.is)) in
     let n = c.apply-after in
     record {
-      step = refused (item_step a.call) (items_of (drop c.in-Read.next.at a.buffer.now)) n.result (search rules) n.ensures.step ∙ sym (turn_of a.call a.buffer.now c.loop-next.cursor.at (open_in c.loop-next.kept) e) ∙ c.loop-next.invariant.1;
+      step = refused (item_step a.call) (items_of (drop c.in-Some.field-0.next.at a.buffer.now)) n.result (search rules) n.ensures.step ∙ sym t ∙ c.loop-item.invariant.1;
       within = n.ensures.within;
     }
 
-pub loop-next-smaller : goal.loop-next-smaller
-loop-next-smaller c =
-    let n = next-item c.args.buffer.now c.loop-next.cursor.at (sym c.read.ensures ∙ c.in-Read.is) in
+pub loop-item-smaller : goal.loop-item-smaller
+loop-item-smaller c =
+    let n = next-item c.args.buffer.now c.loop-item.cursor.at (sym c.read.ensures ∙ c.in-Some.is) in
     omega (arith, n.further, n.within)
 
-pub loop-next-preserved : goal.loop-next-preserved
-loop-next-preserved c =
+pub loop-item-preserved : goal.loop-item-preserved
+loop-item-preserved c =
     let a = c.args in
-    let e = sym c.read.ensures ∙ c.in-Read.is in
+    let t = rw c.in-Ok.is at (turn_of a.call a.buffer.now c.loop-item.cursor.at (open_in c.loop-item.kept) (sym c.read.ensures ∙ c.in-Some.is)) in
     let n = c.apply-after in (
       n.ensures.within,
-      goes_on_lem (item_step a.call) (items_of (drop c.in-Read.next.at a.buffer.now)) n.result c.in-Done.is n.ensures.step ∙ sym (turn_of a.call a.buffer.now c.loop-next.cursor.at (open_in c.loop-next.kept) e) ∙ c.loop-next.invariant.1,
+      goes_on_lem (item_step a.call) (items_of (drop c.in-Some.field-0.next.at a.buffer.now)) n.result c.in-Done.is n.ensures.step ∙ sym t ∙ c.loop-item.invariant.1,
     )
+
+pub returns-clause-step : goal.returns-clause-step
+returns-clause-step c =
+    let a = c.args in
+    let t = turn_of a.call a.buffer.now c.loop-item.cursor.at (open_in c.loop-item.kept) (sym c.read.ensures ∙ c.in_default.is) in
+    ap step_of c.unchanged.ensures ∙ sym t ∙ c.loop-item.invariant.1

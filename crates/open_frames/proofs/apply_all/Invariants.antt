@@ -8,8 +8,8 @@ use lib.ListN.{length, drop}
 use mathlib.Core.Path.{◌≡◌}
 use Rattle.open_frames.proofs.apply_all.Given as goal
 
-abbrev pub invariant-loop-next : goal.invariant-loop-next
-invariant-loop-next l = (l.kept.count ≤ 345) × (updates (item_step l.call) (items_of (drop l.cursor.at l.buffer)) (updated (open_in l.kept)) ≡ updates (item_step l.call) (items_of l.buffer) (updated (open_in l.initial.kept)))
+abbrev pub invariant-loop-item : goal.invariant-loop-item
+invariant-loop-item l = (l.kept.count ≤ 345) × (updates (item_step l.call) (items_of (drop l.cursor.at l.buffer)) (updated (open_in l.kept)) ≡ updates (item_step l.call) (items_of l.buffer) (updated (open_in l.initial.kept)))
 
-abbrev pub decreases-loop-next : goal.decreases-loop-next
-decreases-loop-next l = length l.buffer - l.cursor.at
+abbrev pub decreases-loop-item : goal.decreases-loop-item
+decreases-loop-item l = length l.buffer - l.cursor.at
