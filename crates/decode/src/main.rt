@@ -35,7 +35,6 @@ fn print_next(out: Stdout, s: &[u8], at: usize) -> usize
         Ok(op) => report::operation(line, op, decoder::data(s, op, next)),
         Err(fault) => report::fault(line, fault.number(), &s[at..next.at]),
     }
-    }
     next.at
 }
 

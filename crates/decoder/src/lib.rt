@@ -7,7 +7,7 @@ ghost use Rattle.operation.specs.Rules.{legal};
 ghost use Rattle.decoder.specs.Front.{fault_number, format_error, can, fd, xl, confirm, arbitration_lost, bus_error, configuration, status, wakeup, setting_of, shape_of, too_short, verdict, judge, decode, whole_length, front};
 ghost use Rattle.decoder.specs.Reading.{read_at, data_at};
 
-use operation::Operation;
+use operation::{Code, Operation};
 
 // What is wrong with the bytes at a position.
 #[derive(Clone, Copy, Debug, PartialEq, Eq)]
@@ -289,22 +289,22 @@ pub fn read_wakeup(t: &[u8]) -> Result<Operation, Fault>
 }
 
 // The bytes of one operation, by its code.
+#[tactic(auto, using(crate::proofs::Codes::kind_by_code), unfolding(crate::specs::Front::decode, crate::specs::Front::shape_of, crate::specs::Front::judge))]
 fn read_operation(t: &[u8]) -> Result<Operation, Fault>
     ensures { result ≡ decode t.now }
 {
-    let code = code_of(t);
-    match code {
-        0x01 => read_format_error(t),
-        0x10 => read_can(t),
-        0x11 => read_fd(t),
-        0x12 => read_xl(t),
-        0x20 => read_confirm(t),
-        0x30 => read_arbitration_lost(t),
-        0x31 => read_bus_error(t),
-        0x40 => read_configuration(t),
-        0x41 => read_status(t),
-        0x42 => read_wakeup(t),
-        _ => Err(Fault::UnknownCode),
+    match Code::try_from(code_of(t)) {
+        Ok(Code::FormatError) => read_format_error(t),
+        Ok(Code::CanTransmit) => read_can(t),
+        Ok(Code::FdTransmit) => read_fd(t),
+        Ok(Code::XlTransmit) => read_xl(t),
+        Ok(Code::Confirm) => read_confirm(t),
+        Ok(Code::ArbitrationLost) => read_arbitration_lost(t),
+        Ok(Code::BusError) => read_bus_error(t),
+        Ok(Code::Configuration) => read_configuration(t),
+        Ok(Code::Status) => read_status(t),
+        Ok(Code::Wakeup) => read_wakeup(t),
+        Err(_) => Err(Fault::UnknownCode),
     }
 }
 

@@ -18,7 +18,7 @@ ghost use Rattle.kettlefrost.specs.Calls.{no_operation, item_answer, read_answer
 use bus_state::State;
 use decoder::{Cursor, Fault, Front};
 use encoder::Written;
-use operation::Operation;
+use operation::{Code, Operation};
 use outcome::Answer;
 use slots::Slot;
 
@@ -206,22 +206,22 @@ fn answer_item(item: Result<Operation, Fault>, next: usize) -> ReadAnswer
 }
 
 // The bytes of one operation by its code: a reader a kind, so that the operation goes through no memory.
+#[tactic(auto, using(decoder::proofs::Codes::kind_by_code), unfolding(decoder::specs::Front::decode, decoder::specs::Front::shape_of, decoder::specs::Front::judge))]
 fn read_named(t: &[u8], next: usize) -> ReadAnswer
     ensures { result ≡ item_answer (decode t.now) next }
 {
-    let code = decoder::code_of(t);
-    match code {
-        0x01 => answer_item(decoder::read_format_error(t), next),
-        0x10 => answer_item(decoder::read_can(t), next),
-        0x11 => answer_item(decoder::read_fd(t), next),
-        0x12 => answer_item(decoder::read_xl(t), next),
-        0x20 => answer_item(decoder::read_confirm(t), next),
-        0x30 => answer_item(decoder::read_arbitration_lost(t), next),
-        0x31 => answer_item(decoder::read_bus_error(t), next),
-        0x40 => answer_item(decoder::read_configuration(t), next),
-        0x41 => answer_item(decoder::read_status(t), next),
-        0x42 => answer_item(decoder::read_wakeup(t), next),
-        _ => answer_item(Err(Fault::UnknownCode), next),
+    match Code::try_from(decoder::code_of(t)) {
+        Ok(Code::FormatError) => answer_item(decoder::read_format_error(t), next),
+        Ok(Code::CanTransmit) => answer_item(decoder::read_can(t), next),
+        Ok(Code::FdTransmit) => answer_item(decoder::read_fd(t), next),
+        Ok(Code::XlTransmit) => answer_item(decoder::read_xl(t), next),
+        Ok(Code::Confirm) => answer_item(decoder::read_confirm(t), next),
+        Ok(Code::ArbitrationLost) => answer_item(decoder::read_arbitration_lost(t), next),
+        Ok(Code::BusError) => answer_item(decoder::read_bus_error(t), next),
+        Ok(Code::Configuration) => answer_item(decoder::read_configuration(t), next),
+        Ok(Code::Status) => answer_item(decoder::read_status(t), next),
+        Ok(Code::Wakeup) => answer_item(decoder::read_wakeup(t), next),
+        Err(_) => answer_item(Err(Fault::UnknownCode), next),
     }
 }
 
