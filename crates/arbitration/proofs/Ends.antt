@@ -23,8 +23,10 @@ use Rattle.bus_model.specs.Submit.{room_for_each}
 use Rattle.bus_model.specs.Calls.{arbitrate_in, rounded}
 use Rattle.bus_model.specs.Refines.{Sized}
 use Rattle.outcome.specs.Ended.{Ended, ended}
-use Rattle.outcome.specs.declared.Outcome.{Outcome}
-use Rattle.outcome.specs.declared.Outcome.TheVariants.{BadInjection, QueueFull, RoundsUsedUp, Idle, Carried}
+use Rattle.outcome.specs.Outcome.{Outcome}
+use Rattle.outcome.specs.declared.Refusal.TheVariants.{BadInjection, QueueFull, RoundsUsedUp}
+use Rattle.outcome.specs.declared.Done.TheVariants.{Idle, Carried}
+use Rattle.std.specs.Prelude.{Ok, Err}
 use Rattle.arbitration.specs.declared.Injection.{Injection}
 use Rattle.arbitration.specs.Injections.{injection_of, is_wrong}
 use Rattle.scan.specs.declared.Winner.{Winner}
@@ -49,11 +51,11 @@ module _ (s : State) (a : List Slot) (payload queues : List ℕ) (e : Option Inj
   abbrev memory : Memory
   memory = held s a payload queues
 
-  pub wrong_ended : is_wrong s e ≡ true → kept BadInjection memory ≡ ended (rounded memory (injection_of e))
+  pub wrong_ended : is_wrong s e ≡ true → kept (Err BadInjection) memory ≡ ended (rounded memory (injection_of e))
   unfolding rounded
   wrong_ended q = rw (wrong_is memory e, q)
 
-  pub idle_ended : is_wrong s e ≡ false → best_in s a ≡ None → kept Idle memory ≡ ended (rounded memory (injection_of e))
+  pub idle_ended : is_wrong s e ≡ false → best_in s a ≡ None → kept (Ok Idle) memory ≡ ended (rounded memory (injection_of e))
   unfolding rounded arbitrate_in
   idle_ended q n = rw (wrong_is memory e, q, nobody-wins memory n)
 
@@ -83,11 +85,11 @@ module _ (s : State) (a : List Slot) (payload queues : List ℕ) (e : Option Inj
   abbrev answered : Ended
   answered = ended (arbitrate_in m (injection_of e) (wins (pending_at m w.owner w.position)))
 
-  pub full-ended : room_from e s.nodes w.owner size 0 s.count ≡ false → kept QueueFull m ≡ answered
+  pub full-ended : room_from e s.nodes w.owner size 0 s.count ≡ false → kept (Err QueueFull) m ≡ answered
   unfolding arbitrate_in
   full-ended q = rw (room, q)
 
-  pub used_up_ended : room_from e s.nodes w.owner size 0 s.count ≡ true → 4_294_967_295 ≤ s.round → kept RoundsUsedUp m ≡ answered
+  pub used_up_ended : room_from e s.nodes w.owner size 0 s.count ≡ true → 4_294_967_295 ≤ s.round → kept (Err RoundsUsedUp) m ≡ answered
   unfolding arbitrate_in
   used_up_ended q l = rw (room, q, le-leb last_round s.round l)
 
@@ -107,7 +109,7 @@ module _ (s : State) (a : List Slot) (payload queues : List ℕ) (e : Option Inj
       (part (2_048 * (4 * w.owner + w.position)) (data_length (held_at four w.position)) payload) 0 s.count queues
       → ◌≡◌ {A = Ended}
       (record {
-        outcome = Carried w.owner id errored (s.round - (get_or four w.position free_slot).accepted);
+        outcome = Ok (Carried w.owner id errored (s.round - (get_or four w.position free_slot).accepted));
         memory = held state (set_block a (4 * w.owner) block) payload' queues';
       })
       (ended (carried_out m (injection_of e) (pending_at m w.owner w.position)))
