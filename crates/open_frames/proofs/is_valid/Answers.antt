@@ -1,35 +1,35 @@
-use Rattle.open_frames.proofs.Opened.{too_many, one_too_large, none_too_large, above_here, above_later, above_none}
-use mathlib.Core.Path.{refl, sym, ◌∙◌}
-use native.Mathlib.Nat.{le_antisymm}
-use native.Mathlib.Numerals.{add-one}
-use native.Mathlib.Omega.{arith}
+use Rattle.std.proofs.Common.{rules, arith, ◌≡◌, sym, length, take, leb}
+use borrow.Author.Tests.{tests, eq-eqb, ne_eqb}
+use Rattle.std.proofs.lemmas.Iterator.{YieldsList-from_slice}
+use Rattle.std.proofs.lemmas.Iterator.Search.{all_from_yields_List}
+use Rattle.operation.specs.Rules.{max_extended_id}
+use Rattle.open_frames.proofs.Opened.{too_many, validity}
 use Rattle.open_frames.proofs.is_valid.Goals as goal
 
-pub returns-then-count-gt-MAX_OPEN : goal.returns-then-count-gt-MAX_OPEN
-returns-then-count-gt-MAX_OPEN c =
-    sym (too_many c.args.register c.well_formed.0.1.1.0.1.0.1 c.if-count-gt-MAX_OPEN.true)
-
-pub loop-i-init : goal.loop-i-init
-loop-i-init c = (omega arith, omega arith, refl)
-
-pub returns-then-ids-i-gt-MAX_EXTENDED_ID : goal.returns-then-ids-i-gt-MAX_EXTENDED_ID
-returns-then-ids-i-gt-MAX_EXTENDED_ID c =
+pub returns-in_default : goal.returns-in_default
+returns-in_default c =
     let r = c.args.register in
-    let k = c.well_formed.0.1.1.0.1.0.1 in
-    sym (one_too_large r k (omega arith) (sym c.loop-i.invariant.2 ∙ above_here r.ids r.count (omega arith) c.loop-i.i c.loop-i-test.true c.if-ids-i-gt-MAX_EXTENDED_ID.true))
+    let k : length r.ids ≡ 345 = search rules in
+    sym (too_many r k (grind (arith, c.in_default.ensures)))
 
-pub loop-i-preserved : goal.loop-i-preserved
-loop-i-preserved c =
+pub returns-then-register-eq0 : goal.returns-then-register-eq0
+returns-then-register-eq0 c =
     let r = c.args.register in
-    let k = c.well_formed.0.1.1.0.1.0.1 in (
-      omega arith,
-      omega arith,
-      rw (add-one c.loop-i.i) (sym (above_later r.ids r.count (omega arith) c.loop-i.i c.loop-i-test.true c.if-ids-i-gt-MAX_EXTENDED_ID.false) ∙ c.loop-i.invariant.2),
-    )
+    let k : length r.ids ≡ 345 = search rules in
+    let e = all_from_yields_List (λ x. leb x max_extended_id) _ _ c.all.result c.all.ensures.ran (YieldsList-from_slice (take r.count r.ids) (search rules)) (λ x b q k. search (rules, tests)) in
+    rw (validity r k (omega (arith, c.in-Some.ensures.lookup)), ← e, c.if-all.true, eq-eqb r.off 0 c.if-register-eq0.true)
 
-pub returns : goal.returns
-returns c =
+pub returns-else-register-eq0 : goal.returns-else-register-eq0
+returns-else-register-eq0 c =
     let r = c.args.register in
-    let k = c.well_formed.0.1.1.0.1.0.1 in
-    let e = le_antisymm c.loop-i.invariant.0 c.loop-i-test.false in
-    sym (none_too_large r k (omega arith) (sym (rw e at c.loop-i.invariant.2) ∙ above_none r.ids r.count (omega arith)))
+    let k : length r.ids ≡ 345 = search rules in
+    let e = all_from_yields_List (λ x. leb x max_extended_id) _ _ c.all.result c.all.ensures.ran (YieldsList-from_slice (take r.count r.ids) (search rules)) (λ x b q k. search (rules, tests)) in
+    let n : length c.in-Some.ids.now ≡ r.count = omega (arith, c.in-Some.ensures.lookup) in
+    rw (validity r k (omega (arith, c.in-Some.ensures.lookup)), ← e, c.if-all.true, ne_eqb r.off 0 c.if-register-eq0.false, c.is_empty.ensures, n)
+
+pub returns-else-all : goal.returns-else-all
+returns-else-all c =
+    let r = c.args.register in
+    let k : length r.ids ≡ 345 = search rules in
+    let e = all_from_yields_List (λ x. leb x max_extended_id) _ _ c.all.result c.all.ensures.ran (YieldsList-from_slice (take r.count r.ids) (search rules)) (λ x b q k. search (rules, tests)) in
+    rw (validity r k (omega (arith, c.in-Some.ensures.lookup)), ← e, c.if-all.false)
