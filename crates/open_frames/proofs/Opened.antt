@@ -1,17 +1,20 @@
--- The plain register's lists in the words of the library: what is tested, found, taken out and filled up.
+-- What the plain register's lists are in the words of the library: what is valid, closed and handed back.
 -- Assumes nothing.
-use Rattle.std.proofs.Common.{ℕ, Bool, true, false, not, cond, List, [], ◌∷◌, ◌++◌, ◌≡◌, refl, sym, ap, ◌∙◌, suc, ◌+◌, ◌-◌, ◌≤◌, ◌<◌, add-one, length, length-drop, take, drop, arith, rules, Some, None, eqb, leb, ltb, ◌==◌, ◌||◌, ◌&&◌, append-nil, length-append, length-take}
+use Rattle.std.proofs.Common.{ℕ, suc, ◌+◌, ◌-◌, ◌≤◌, ◌<◌, add-one, arith, rules}
+use Rattle.std.proofs.Common.{Bool, true, false, not, cond, ◌||◌, ◌&&◌, eqb, leb, ltb, ◌==◌, Some, None}
+use Rattle.std.proofs.Common.{List, [], ◌∷◌, ◌++◌, append-nil, length, take, drop, length-append, length-take, length-drop}
+use Rattle.std.proofs.Common.{◌≡◌, refl, sym, ap, ◌∙◌}
+use Rattle.std.proofs.lemmas.Bool.Decides.{nat_tests}
+use Rattle.std.proofs.lemmas.Grind.{common_steps}
 use Rattle.std.proofs.lemmas.List.{length-replicate}
+use Rattle.std.proofs.lemmas.List.Edits.{take-paste}
+use Rattle.std.proofs.lemmas.Slice.{between_is}
 use Rattle.std.proofs.Math.ListN.{replicate}
+use Rattle.std.proofs.Math.Seq.{length-take-le, take-take, drop-drop, drop-length}
+use Rattle.std.specs.List.{position, position_or_len, list_all, copy_within}
 use mir.Val.{bool_byte}
 use borrow.Rule.Slice.PartMut.{put_mid}
-use borrow.Author.Tests.{lt-leb, le-leb, leb-true, leb-false, ltb-true}
-use Rattle.std.proofs.lemmas.Bool.Decides.{nat_tests}
-use Rattle.std.proofs.lemmas.List.Edits.{take-paste}
-use Rattle.std.proofs.Math.Seq.{take-take}
-use Rattle.std.proofs.lemmas.Slice.{between_is}
-use Rattle.std.specs.List.{position, position_or_len, list_all, copy_within}
-use Rattle.std.proofs.Math.Seq.{length-take-le, drop-drop, drop-length}
+use borrow.Author.Tests.{lt-leb, le-leb, leb-true, leb-false}
 use Rattle.operation.specs.Rules.{max_extended_id}
 use Rattle.plain_bus.specs.Refusal.{register_differs}
 use Rattle.plain_bus.specs.Register as plain
@@ -20,7 +23,7 @@ use Rattle.open_frames.specs.declared.Register.{Register}
 
 -- ---- validity
 
-pub all_below : (limit : ℕ) (l : List ℕ) → plain.none_above limit l ≡ list_all (λ x. leb x limit) l
+all_below : (limit : ℕ) (l : List ℕ) → plain.none_above limit l ≡ list_all (λ x. leb x limit) l
 unfolding plain.none_above
 all_below limit [] = refl
 all_below limit (x ∷ xs) = rw (all_below limit xs)
@@ -50,19 +53,27 @@ module _ (r : Register) (k : length r.ids ≡ 345) where
         let e : r.count - 345 ≡ 0 = omega arith in
         rw (e, append-nil (take r.count r.ids))
 
-    pub validity : plain.valid_register (open_in r) ≡ (list_all (λ x. leb x max_extended_id) (take r.count r.ids) && (eqb r.off 0 || eqb r.count 0))
+    pub validity : plain.valid_register (open_in r)
+        ≡ (list_all (λ x. leb x max_extended_id) (take r.count r.ids) && (eqb r.off 0 || eqb r.count 0))
     unfolding plain.valid_register
-    validity = rw (within, length-take-le r.count r.ids (omega arith), le-leb r.count 345 h, all_below max_extended_id (take r.count r.ids)) (ap (λ (b : Bool). list_all (λ x. leb x max_extended_id) (take r.count r.ids) && (b || eqb r.count 0)) (twice (eqb r.off 0)))
+    validity =
+        rw (within, length-take-le r.count r.ids (omega arith), le-leb r.count 345 h, all_below max_extended_id (take r.count r.ids))
+        (go (eqb r.off 0))
       where
-        twice : (b : Bool) → not (not b) ≡ b
-        twice true = refl
-        twice false = refl
+        go : (t : Bool) → (list_all (λ x. leb x max_extended_id) (take r.count r.ids) && (not (not t) || eqb r.count 0))
+            ≡ (list_all (λ x. leb x max_extended_id) (take r.count r.ids) && (t || eqb r.count 0))
+        go true = refl
+        go false = refl
+
+pub ruleset valid = (too_many, validity)
+
+pub ruleset made = (room, within)
 
 -- ---- closing
 
 -- where the first equal ID is, and the list's length where there is none
 abbrev place_of : ℕ → List ℕ → ℕ
-place_of id l = position_or_len (λ x. eqb x id) l
+place_of id l = position_or_len (λ x. x == id) l
 
 found : (id : ℕ) (l : List ℕ) → plain.is_open id l ≡ ltb (place_of id l) (length l)
 unfolding plain.is_open
@@ -73,64 +84,61 @@ found id (x ∷ xs) = rw (found id xs) (go (eqb x id))
     go true = grind (arith, nat_tests)
     go false = grind (arith, nat_tests)
 
-removed : (id : ℕ) (l : List ℕ) → plain.remove id l ≡ take (place_of id l) l ++ drop (suc (place_of id l)) l
+-- without the entry at a place
+abbrev cut : ℕ → List ℕ → List ℕ
+cut i l = take i l ++ drop (suc i) l
+
+removed : (id : ℕ) (l : List ℕ) → plain.remove id l ≡ cut (place_of id l) l
 unfolding plain.remove
 removed id [] = refl
 removed id (x ∷ xs) = rw (removed id xs) (go (eqb x id))
   where
-    go : (t : Bool) → cond t xs (x ∷ (take (place_of id xs) xs ++ drop (suc (place_of id xs)) xs))
-        ≡ take (cond (not t) (1 + place_of id xs) 0) (x ∷ xs) ++ drop (suc (cond (not t) (1 + place_of id xs) 0)) (x ∷ xs)
+    go : (t : Bool) → cond t xs (x ∷ cut (place_of id xs) xs) ≡ cut (cond (not t) (1 + place_of id xs) 0) (x ∷ xs)
     go true = refl
     go false = search rules
 
 module _ (r : plain.Register) (id : ℕ) where
-  pub not_closed : None ≡ position (λ x. x == id) r.opened → plain.rejected register_differs ≡ plain.close_id r id
+  pub closes_none : None ≡ position (λ x. x == id) r.opened → plain.rejected register_differs ≡ plain.close_id r id
   unfolding plain.close_id
-  not_closed e = rw (found id r.opened) (go (ltb (place_of id r.opened) (length r.opened)) _ e)
+  closes_none e = rw (found id r.opened) (go (ltb (place_of id r.opened) (length r.opened)) _ e)
     where
       go : (t : Bool) (u : plain.Update) → None ≡ cond t (Some (place_of id r.opened)) None
           → plain.rejected register_differs ≡ cond t u (plain.rejected register_differs)
       go true u e = cc
       go false u e = refl
 
-  pub closed : (place : ℕ) → Some place ≡ position (λ x. x == id) r.opened
-      → plain.updated (plain.with_opened r (take place r.opened ++ drop (suc place) r.opened)) ≡ plain.close_id r id
+  pub closes_at : (place : ℕ) → Some place ≡ position (λ x. x == id) r.opened
+      → plain.updated (plain.with_opened r (cut place r.opened)) ≡ plain.close_id r id
   unfolding plain.close_id
-  closed place e = rw (found id r.opened, removed id r.opened) (go (ltb (place_of id r.opened) (length r.opened)) e)
+  closes_at place e = rw (found id r.opened, removed id r.opened) (go (ltb (place_of id r.opened) (length r.opened)) _ e)
     where
-      go : (t : Bool) → Some place ≡ cond t (Some (place_of id r.opened)) None
-          → plain.updated (plain.with_opened r (take place r.opened ++ drop (suc place) r.opened))
-          ≡ cond t (plain.updated (plain.with_opened r (take (place_of id r.opened) r.opened ++ drop (suc (place_of id r.opened)) r.opened))) (plain.rejected register_differs)
-      go true e = cc
-      go false e = cc
-
-pub placed : (id : ℕ) (l : List ℕ) (place : ℕ) → Some place ≡ position (λ x. x == id) l → place < length l
-placed id l place e = go (ltb (place_of id l) (length l)) refl e
-  where
-    go : (t : Bool) → ltb (place_of id l) (length l) ≡ t → Some place ≡ cond t (Some (place_of id l)) None → place < length l
-    go true q e =
-        let p : place ≡ place_of id l = cc in
-        rw p (ltb-true (place_of id l) (length l) q)
-    go false q e = cc
+      go : (t : Bool) (u : plain.Update) → Some place ≡ cond t (Some (place_of id r.opened)) None
+          → plain.updated (plain.with_opened r (cut place r.opened))
+          ≡ cond t (plain.updated (plain.with_opened r (cut (place_of id r.opened) r.opened))) u
+      go true u e = cc
+      go false u e = cc
 
 -- the IDs behind a place have moved down by one
 pub moved_down : (ids : List ℕ) (n place : ℕ) → n ≤ length ids → place < length (take n ids)
-    → take (n - 1) (copy_within ids (place + 1) n place) ≡ take place (take n ids) ++ drop (suc place) (take n ids)
+    → take (n - 1) (copy_within ids (place + 1) n place) ≡ cut place (take n ids)
 moved_down ids n place fits h =
     let l : length (take n ids) ≡ n = length-take-le n ids fits in
     let a : n - 1 ≡ place + (n - (place + 1)) = omega arith in
-    rw (a, take-paste ids place (drop (place + 1) ids) (n - (place + 1)) (omega arith) (simp length-drop (omega arith)), take-take place n ids (omega arith), add-one, between_is)
+    let behind : n - (place + 1) ≤ length (drop (place + 1) ids) = simp length-drop (omega arith) in
+    let copied = take-paste ids place (drop (place + 1) ids) (n - (place + 1)) (omega arith) behind in
+    rw (a, copied, take-take place n ids (omega arith), add-one, between_is)
+
+pub ruleset closing = (closes_none, closes_at, moved_down)
 
 -- ---- the form that a call hands back
 
 -- zeros behind the open IDs
 pub zeroed : (ids : List ℕ) (n : ℕ) → length ids ≡ 345 → n ≤ 345
     → put_mid n (345 - n) ids (replicate (length (take (345 - n) (drop n ids))) 0) ≡ take n ids ++ replicate (345 - n) 0
-zeroed ids n k h =
-    let m : length (take (345 - n) (drop n ids)) ≡ 345 - n = length-take-le (345 - n) (drop n ids) (simp length-drop (omega arith)) in
-    let e : drop (345 - n) (drop n ids) ≡ [] = drop-drop (345 - n) n ids ∙ ap (λ (i : ℕ). drop i ids) (omega arith) ∙ drop-length ids in
-    rw (m, e, append-nil)
+zeroed ids n k h = grind (arith, common_steps)
 
-pub byte_of : (b : Bool) → bool_byte b ≡ cond b 1 0
-byte_of true = refl
-byte_of false = refl
+pub off_is : (b : Bool) → bool_byte b ≡ cond b 1 0
+off_is true = refl
+off_is false = refl
+
+pub ruleset flat = (zeroed, off_is)

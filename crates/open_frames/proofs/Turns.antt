@@ -4,9 +4,9 @@ use Rattle.std.proofs.Common.{ℕ, List, [], ◌∷◌, ◌≡◌, refl, Result,
 use Rattle.operation.specs.declared.Operation.{Operation}
 use Rattle.decoder.specs.Stream.{Item, operation, fault}
 use Rattle.plain_bus.specs.Refusal.{RegisterRefusal}
-use Rattle.plain_bus.specs.Register.{Register, Update, updated, rejected, updates}
+use Rattle.plain_bus.specs.Register.{Register, Update, updated, rejected, updates, read_item}
 use Rattle.open_frames.specs.declared.Refusal.{Refusal}
-use Rattle.open_frames.specs.Steps.{update_of, IsStep}
+use Rattle.open_frames.specs.Steps.{update_of, Calls, IsStep}
 
 module _ (g : Register → Item → Update) where
   pub at_end : (is : List Item) (u : Update) → is ≡ [] → u ≡ updates g is u
@@ -19,13 +19,18 @@ module _ (g : Register → Item → Update) where
   refused [] x = refl
   refused (i ∷ is) x = refl
 
-  module _ {calls : MutBor Register → Operation → Result Unit Refusal → MutBor Register → Type 0} (s : IsStep g calls) where
+  module _ {calls : Calls} (s : IsStep g calls) where
     pub at_fault : (is rest : List Item) (r : Register) {number : ℕ} {bytes : List ℕ} → is ≡ fault number bytes ∷ rest
         → updates g rest (updated r) ≡ updates g is (updated r)
     unfolding updates
     at_fault is rest r {number} {bytes} e = rw (e, s.faults r number bytes)
 
-    pub at_operation : (is rest : List Item) (r : MutBor Register) (op : Operation) (x : Result Unit Refusal) (r' : MutBor Register) {bytes : List ℕ}
-        → calls r op x r' → is ≡ operation op bytes ∷ rest → updates g rest (update_of x r'.now) ≡ updates g is (updated r.now)
+    pub at_operation : (is rest : List Item) (r : MutBor Register) (op : Operation) (x : Result Unit Refusal) (r' : MutBor Register)
+        {bytes : List ℕ} → calls r op x r' → is ≡ operation op bytes ∷ rest → updates g rest (update_of x r'.now) ≡ updates g is (updated r.now)
     unfolding updates
     at_operation is rest r op x r' {bytes} h e = rw (e, s.operations r op x r' bytes h)
+
+-- a fault changes nothing
+pub read_fault : (r : Register) (number : ℕ) (bytes : List ℕ) → read_item r (fault number bytes) ≡ updated r
+unfolding read_item
+read_fault r number bytes = refl

@@ -22,9 +22,14 @@ abbrev pub update_of : Result Unit Refusal → plain.Register → plain.Update
 update_of (Ok x) r = plain.updated r
 update_of (Err e) r = plain.rejected (plain_refusal e)
 
--- the calls of a step do what the plain register's step g does, whatever bytes an operation comes from; a fault changes nothing
-pub record IsStep (g : plain.Register → Item → plain.Update) (calls : MutBor plain.Register → Operation → Result Unit Refusal → MutBor plain.Register → Type 0) : Type 0 where
-  pub operations : (r : MutBor plain.Register) (op : Operation) (x : Result Unit Refusal) (r' : MutBor plain.Register) (bytes : List ℕ) → calls r op x r' → update_of x r'.now ≡ g r.now (operation op bytes)
+-- which calls of a step there are: the register before, the operation, what the call comes to, and the register after
+abbrev pub Calls : Type 1
+Calls = MutBor plain.Register → Operation → Result Unit Refusal → MutBor plain.Register → Type 0
+
+-- the calls do what the plain register's step g does, whatever bytes an operation comes with; at a fault g changes nothing
+pub record IsStep (g : plain.Register → Item → plain.Update) (calls : Calls) : Type 0 where
+  pub operations : (r : MutBor plain.Register) (op : Operation) (x : Result Unit Refusal) (r' : MutBor plain.Register)
+      (bytes : List ℕ) → calls r op x r' → update_of x r'.now ≡ g r.now (operation op bytes)
   pub faults : (r : plain.Register) (number : ℕ) (bytes : List ℕ) → g r (fault number bytes) ≡ plain.updated r
 
 -- a register to work on, or the refusal of one that is not valid

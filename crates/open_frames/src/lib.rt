@@ -1,12 +1,15 @@
 // The register that a node keeps of its open frames (01: the book): new, enter a submitted buffer, read a collected one.
 #![tactic(auto)]
 
-ghost use Rattle.std.specs.Prelude.{◌≡◌, ◌==◌, List, ℕ, position};
+ghost use Rattle.std.specs.Prelude.{◌≡◌, ◌==◌, leb, List, ℕ};
+ghost use Rattle.std.specs.List.{list_all, position};
+ghost use Rattle.operation.specs.Rules.{max_extended_id};
 ghost use Rattle.decoder.specs.Stream.{Item, operation, items_of};
-ghost use Rattle.plain_bus.specs.Register.{Update, new_register, valid_register, updated, if_valid, updates, open_id, note_status, enter_item, enter, close_id, read_item, read};
+ghost use Rattle.plain_bus.specs.Register.{Update, new_register, valid_register, updated, if_valid, updates};
+ghost use Rattle.plain_bus.specs.Register.{open_id, note_status, enter_item, enter, close_id, read_item, read};
+ghost use Rattle.plain_bus.specs.Register as plain;
 ghost use Rattle.open_frames.specs.Record.{open_in, record_of, answered};
 ghost use Rattle.open_frames.specs.Steps.{update_of, opened_from, IsStep, answer_of};
-ghost use Rattle.plain_bus.specs.Register as plain;
 
 use decoder::{Cursor, Reading};
 use operation::Operation;
@@ -38,7 +41,7 @@ enum Refusal {
     Differs = 13,
 }
 
-// A register that a call works on: contracts see it as the plain register.
+// The register that a call works on. Clauses see it as the plain register: the first count IDs, and whether the node is Bus-Off.
 #[derive(Drop)]
 struct OpenFrames {
     ids: [u32; MAX_OPEN],
@@ -93,6 +96,7 @@ impl OpenFrames {
     }
 
     // Takes the first equal ID out; the later ones move down by one.
+    #[tactic(auto, using(crate::proofs::Opened::closing))]
     fn close(&mut self, id: u32) -> Result<(), Refusal>
         ensures { update_of result self.new ≡ close_id self.old id }
     {
@@ -143,7 +147,8 @@ impl OpenFrames {
         buffer: &[u8],
     ) -> Result<(), Refusal>
         requires { F.IsAlwaysCallable step }
-        ensures { (g : plain.Register → Item → Update) → IsStep g (F.post step) → update_of result self.new ≡ updates g (items_of buffer.now) (updated self.old) }
+        ensures { (g : plain.Register → Item → Update) → IsStep g (F.post step)
+            → update_of result self.new ≡ updates g (items_of buffer.now) (updated self.old) }
     {
         let mut cursor = Cursor { at: 0 };
         loop {
@@ -164,6 +169,7 @@ impl TryFrom<Register> for OpenFrames {
 
     ghost try_from_gives = { λ register result. result ≡ opened_from register };
 
+    #[tactic(auto, using(crate::proofs::Opened::made))]
     fn try_from(register: Register) -> Result<OpenFrames, Refusal> {
         if !is_valid(register) {
             return Err(Refusal::Invalid);
@@ -181,6 +187,7 @@ impl From<OpenFrames> for Register {
     ghost from_gives = { λ frames register. register ≡ record_of frames };
 
     // 0 past the open IDs.
+    #[tactic(auto, using(crate::proofs::Opened::flat), unfolding(crate::specs::Record::record_of))]
     fn from(frames: OpenFrames) -> Register {
         let mut ids = frames.ids;
         ids[frames.count..].fill(0);
@@ -203,14 +210,22 @@ pub fn new_register() -> Register
     }
 }
 
+// Whether all IDs fit 29 bits.
+fn all_fit(ids: &[u32]) -> bool
+    ensures { result ≡ list_all (λ x. leb x max_extended_id) ids.now }
+{
+    ids.iter().all(|&id| id <= operation::MAX_EXTENDED_ID)
+}
+
 // Whether a register is valid (01: sound).
+#[tactic(auto, using(crate::proofs::Opened::valid))]
 pub fn is_valid(register: Register) -> bool
     ensures { result ≡ valid_register (open_in register) }
 {
     let Some(ids) = register.ids.get(..register.count as usize) else {
         return false;
     };
-    ids.iter().all(|&id| id <= operation::MAX_EXTENDED_ID) && (register.off == 0 || ids.is_empty())
+    all_fit(ids) && (register.off == 0 || ids.is_empty())
 }
 
 // The register after the steps of a buffer; one that is not valid is refused before all else.
@@ -221,7 +236,8 @@ fn apply<F: Fn(&mut OpenFrames, Operation) -> Result<(), Refusal>>(
 ) -> Result<Register, Refusal>
     requires { F.IsAlwaysCallable step }
     ensures { (g : plain.Register → Item → Update) → IsStep g (F.post step)
-        → answer_of register result ≡ answered register (if_valid (open_in register) (updates g (items_of buffer.now) (updated (open_in register)))) }
+        → answer_of register result
+        ≡ answered register (if_valid (open_in register) (updates g (items_of buffer.now) (updated (open_in register)))) }
 {
     let mut frames = OpenFrames::try_from(register)?;
     frames.apply_all(step, buffer)?;
@@ -245,7 +261,7 @@ fn answer(register: Register, after: Result<Register, Refusal>) -> RegisterAnswe
 }
 
 // Enters a buffer that was submitted.
-#[tactic(auto, unfolding(plain_bus::specs::Register::enter))]
+#[tactic(auto, unfolding(plain_bus::specs::Register::enter, plain_bus::specs::Register::enter_item))]
 pub fn enter(register: Register, buffer: &[u8]) -> RegisterAnswer
     ensures { result ≡ answered register (enter (open_in register) buffer.now) }
 {
@@ -253,7 +269,7 @@ pub fn enter(register: Register, buffer: &[u8]) -> RegisterAnswer
 }
 
 // Reads a buffer that was collected.
-#[tactic(auto, unfolding(plain_bus::specs::Register::read))]
+#[tactic(auto, using(crate::proofs::Turns::read_fault), unfolding(plain_bus::specs::Register::read))]
 pub fn read(register: Register, buffer: &[u8]) -> RegisterAnswer
     ensures { result ≡ answered register (read (open_in register) buffer.now) }
 {

@@ -23,7 +23,8 @@ pub returns-in_err-step-in-Read : goal.returns-in_err-step-in-Read
 returns-in_err-step-in-Read b c g s =
     let n = next-item c.args.buffer.now c.loop-step.cursor.at (sym c.read.ensures ∙ c.in-Read.is) in
     let p = err_from_is_err_and c.from_residual.result c.from_residual.ensures.1 in
-    rw (p.1, p.2) (refused g _ _ ∙ rw c.in_err-step-in-Read.was at (at_operation g s _ _ _ _ _ _ c.step.ensures n.items) ∙ c.loop-step.invariant g s)
+    let h = rw c.in_err-step-in-Read.was at (at_operation g s _ _ _ _ _ _ c.step.ensures n.items) in
+    rw (p.1, p.2) (refused g _ _ ∙ h ∙ c.loop-step.invariant g s)
 
 pub loop-step-smaller : goal.loop-step-smaller
 loop-step-smaller b c =
