@@ -26,7 +26,8 @@ module _ (g : Register → Item → Update) where
     at_fault is rest r {number} {bytes} e = rw (e, s.faults r number bytes)
 
     pub at_operation : (is rest : List Item) (r : MutBor Register) (op : Operation) (x : Result Unit Refusal) (r' : MutBor Register)
-        {bytes : List ℕ} → calls r op x r' → is ≡ operation op bytes ∷ rest → updates g rest (update_of x r'.now) ≡ updates g is (updated r.now)
+        {bytes : List ℕ} → calls r op x r' → is ≡ operation op bytes ∷ rest
+        → updates g rest (update_of x r'.now) ≡ updates g is (updated r.now)
     unfolding updates
     at_operation is rest r op x r' {bytes} h e = rw (e, s.operations r op x r' bytes h)
 

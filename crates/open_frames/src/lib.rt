@@ -12,7 +12,7 @@ ghost use Rattle.open_frames.specs.Record.{open_in, record_of, answered};
 ghost use Rattle.open_frames.specs.Steps.{update_of, opened_from, IsStep, answer_of};
 
 use decoder::{Cursor, Reading};
-use operation::Operation;
+use operation::{NodeStatus, Operation};
 use std::marker::Model;
 
 pub const MAX_OPEN: usize = 345;
@@ -82,7 +82,7 @@ impl OpenFrames {
     fn note_status(&mut self, status: u8)
         ensures { self.new ≡ note_status self.old status }
     {
-        self.off = status == operation::BUS_OFF;
+        self.off = status == NodeStatus::BusOff as u8;
         if self.off {
             self.count = 0;
         }
