@@ -18,8 +18,7 @@ use Rattle.operation.proofs.Tests.{false_is_true, both, passed}
 use Rattle.slots.specs.Slots.{content_of, held_in, legal_content}
 use Rattle.slots.specs.declared.Slot.{Slot}
 use Rattle.slots.proofs.Contents.{by_kind}
-use Rattle.slots.specs.declared.Content.{Content}
-use Rattle.slots.specs.declared.Content.TheVariants.{Free, Transmit}
+use Rattle.std.specs.Prelude.{Option, Some, None}
 use Rattle.operation.specs.Kinds.{is_transmit}
 use Rattle.plain_bus.proofs.ValidBus.{ReadsWhole}
 use Rattle.plain_bus.proofs.Codec.{reads-written}
@@ -84,9 +83,9 @@ slot-lawful s t =
     (λ l. xl-lawful _ _ _ _ _ _ _ l t.third t.fourth t.af) (λ l. false_is_true l)
 
 -- and the other way
-pub content-legal : (c : Content) → is_transmit (held_in c) ≡ true → legal (held_in c) ≡ true → legal_content c ≡ true
-content-legal Free t l = false_is_true t
-content-legal (Transmit op) t l = l
+pub content-legal : (c : Option Operation) → is_transmit (held_in c) ≡ true → legal (held_in c) ≡ true → legal_content c ≡ true
+content-legal None t l = false_is_true t
+content-legal (Some op) t l = l
 
 -- ---- its bytes
 

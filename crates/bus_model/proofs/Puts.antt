@@ -13,7 +13,7 @@ use Rattle.operation.specs.declared.Operation.TheVariants.{FormatError, CanTrans
 use Rattle.operation.proofs.Tests.{false_is_true}
 use Rattle.slots.specs.Slots.{content_of}
 use Rattle.slots.specs.Blocks.{slot_of}
-use Rattle.slots.specs.declared.Content.TheVariants.{Transmit}
+use Rattle.std.specs.Prelude.{Some}
 use Rattle.operation.specs.Kinds.{is_transmit}
 use Rattle.plain_bus.specs.Submit.{accept}
 use Rattle.bus_state.specs.Memory.{Memory, operation_at, slot_at, frame_at, node_view}
@@ -25,7 +25,7 @@ use Rattle.bus_model.proofs.Views.{Fits, Moved, frames_moved, frames_snoc, entry
 
 -- ---- the slot of a Transmit
 
-slot-content : (op : Operation) (owner accepted : ℕ) → is_transmit op ≡ true → content_of (slot_of op owner accepted) ≡ Transmit op
+slot-content : (op : Operation) (owner accepted : ℕ) → is_transmit op ≡ true → content_of (slot_of op owner accepted) ≡ Some op
 unfolding content_of slot_of
 slot-content (FormatError n) owner accepted t = false_is_true t
 slot-content (CanTransmit id ide rtr dl) owner accepted t = refl

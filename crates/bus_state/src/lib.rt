@@ -45,6 +45,11 @@ pub const BYTES_PER_QUEUE: usize = QUEUE_CAPACITY as usize;
 
 pub const BYTES_PER_SLOT: usize = 2048;
 
+// How many payload bytes and queue bytes are lent.
+pub const PAYLOAD_BYTES: usize = 65536;
+
+pub const QUEUE_BYTES: usize = 32768;
+
 pub fn is_off(d: NodeState) -> bool
     ensures { result ≡ is_off d }
 {

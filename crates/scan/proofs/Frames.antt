@@ -1,19 +1,18 @@
 -- A frame that meets the content rules is compared by the ID in its slot.
 -- Assumes nothing.
 use mathlib.Core.Path.{◌≡◌, refl}
-use mathlib.Core.Bool.{Bool, true, false, cond}
+use mathlib.Core.Bool.{true}
 use Prim.Native.Nat.{ℕ, ◌<◌}
 use native.Mathlib.Omega.{arith}
-use lib.Dec.{leb, eqb}
+use lib.Dec.{leb}
 use borrow.Author.Tests.{leb-true}
 use Rattle.operation.specs.Kinds.{id_of}
 use Rattle.operation.specs.Rules.{max_id, rules, legal}
 use Rattle.operation.specs.declared.Operation.TheVariants.{CanTransmit, FdTransmit, XlTransmit}
 use Rattle.operation.proofs.Tests.{false_is_true, both, passed}
 use Rattle.slots.specs.Slots.{content_of, held_in, legal_content}
+use Rattle.slots.proofs.Contents.{by_kind}
 use Rattle.slots.specs.declared.Slot.{Slot}
-use Rattle.slots.specs.declared.Content.{Content}
-use Rattle.slots.specs.declared.Content.TheVariants.{Free, Transmit}
 use Rattle.plain_bus.specs.Order.{rank}
 use Rattle.bus_state.specs.Follows.{slot_follows}
 use Rattle.bus_model.proofs.Lawful.{max_id_lem}
@@ -33,21 +32,11 @@ xl-id : (id ide sec sdt vcid af dl : ℕ) → legal (XlTransmit id ide sec sdt v
 unfolding legal rules
 xl-id id ide sec sdt vcid af dl l = low-id id ide (passed _ l 1)
 
--- by the three tests of the slot's kind
+-- by the kinds that a slot may have
 pub legal-id : (x : Slot) → legal_content (content_of x) ≡ true → (id_of (held_in (content_of x)) ≡ x.id) × (x.id < 4_294_967_296)
-unfolding content_of
-legal-id x = go (eqb x.kind 0x10) (eqb x.kind 0x11) (eqb x.kind 0x12)
-  where
-    go : (a b c : Bool)
-        → let y : Content =
-        cond a (Transmit (CanTransmit x.id x.first x.second x.length))
-        (cond b (Transmit (FdTransmit x.id x.first x.second x.third x.length))
-        (cond c (Transmit (XlTransmit x.id x.first x.second x.third x.fourth x.af x.length)) Free)) in
-        legal_content y ≡ true → (id_of (held_in y) ≡ x.id) × (x.id < 4_294_967_296)
-    go true b c l = (refl, can-id _ _ _ _ l)
-    go false true c l = (refl, fd-id _ _ _ _ _ l)
-    go false false true l = (refl, xl-id _ _ _ _ _ _ _ l)
-    go false false false l = false_is_true l
+legal-id x =
+    by_kind (λ c. legal_content c ≡ true → (id_of (held_in c) ≡ x.id) × (x.id < 4_294_967_296)) x
+    (λ l. (refl, can-id _ _ _ _ l)) (λ l. (refl, fd-id _ _ _ _ _ l)) (λ l. (refl, xl-id _ _ _ _ _ _ _ l)) (λ l. false_is_true l)
 
 pub rank_is : (j low : ℕ) (x : Slot) → slot_follows j low x ≡ true → (rank (held_in (content_of x)) ≡ x.id) × (x.id < 4_294_967_296)
 unfolding rank slot_follows

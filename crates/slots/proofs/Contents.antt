@@ -5,23 +5,23 @@ use mathlib.Core.Bool.{Bool, true, false, cond}
 use lib.Dec.{eqb}
 use Rattle.operation.specs.Kinds.{is_transmit}
 use Rattle.operation.specs.Rules.{legal}
+use Rattle.operation.specs.declared.Operation.{Operation}
 use Rattle.operation.specs.declared.Operation.TheVariants.{CanTransmit, FdTransmit, XlTransmit}
 use Rattle.operation.proofs.Tests.{false_is_true}
 use Rattle.slots.specs.Slots.{content_of, held_in, legal_content}
 use Rattle.slots.specs.declared.Slot.{Slot}
-use Rattle.slots.specs.declared.Content.{Content}
-use Rattle.slots.specs.declared.Content.TheVariants.{Free, Transmit}
+use Rattle.std.specs.Prelude.{Option, Some, None}
 
-module _ (P : Content → Type 0) where
-  either : (t : Bool) {x y : Content} → P x → P y → P (cond t x y)
+module _ (P : Option Operation → Type 0) where
+  either : (t : Bool) {x y : Option Operation} → P x → P y → P (cond t x y)
   either true a b = a
   either false a b = b
 
   pub by_kind : (s : Slot)
-      → P (Transmit (CanTransmit s.id s.first s.second s.length))
-      → P (Transmit (FdTransmit s.id s.first s.second s.third s.length))
-      → P (Transmit (XlTransmit s.id s.first s.second s.third s.fourth s.af s.length))
-      → P Free → P (content_of s)
+      → P (Some (CanTransmit s.id s.first s.second s.length))
+      → P (Some (FdTransmit s.id s.first s.second s.third s.length))
+      → P (Some (XlTransmit s.id s.first s.second s.third s.fourth s.af s.length))
+      → P None → P (content_of s)
   unfolding content_of
   by_kind s can fd xl free = either (eqb s.kind 0x10) can (either (eqb s.kind 0x11) fd (either (eqb s.kind 0x12) xl free))
 

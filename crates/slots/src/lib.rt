@@ -3,7 +3,7 @@
 
 ghost use Rattle.std.specs.Prelude.{◌≡◌};
 ghost use Rattle.operation.specs.Kinds.{id_of};
-ghost use Rattle.slots.specs.Slots.{slot_row, free_slot, content_of, held_in, legal_content};
+ghost use Rattle.slots.specs.Slots.{free_slot, content_of, held_in, legal_content};
 ghost use Rattle.slots.specs.Blocks.{slot_of};
 
 use operation::Operation;
@@ -25,67 +25,44 @@ pub struct Slot {
     pub fourth: u8,
 }
 
-#[derive(Clone, Copy)]
-pub enum Content {
-    Free,
-    Transmit(Operation),
-}
-
-fn row(
-    accepted: u32,
-    id: u32,
-    af: u32,
-    length: u16,
-    kind: u8,
-    owner: u8,
-    first: u8,
-    second: u8,
-    third: u8,
-    fourth: u8,
-) -> Slot
-    ensures { result ≡ slot_row accepted id af length kind owner first second third fourth }
-{
-    Slot {
-        accepted,
-        id,
-        af,
-        length,
-        kind,
-        owner,
-        first,
-        second,
-        third,
-        fourth,
-    }
-}
-
 // A slot that holds nothing.
 pub fn free() -> Slot
     ensures { result ≡ free_slot }
 {
-    row(0, 0, 0, 0, 0, 0, 0, 0, 0, 0)
+    Slot {
+        accepted: 0,
+        id: 0,
+        af: 0,
+        length: 0,
+        kind: 0,
+        owner: 0,
+        first: 0,
+        second: 0,
+        third: 0,
+        fourth: 0,
+    }
 }
 
-// What a slot holds.
-pub fn content_of(s: Slot) -> Content
+// The Transmit that a slot holds.
+#[tactic(auto, unfolding(crate::specs::Slots::content_of))]
+pub fn content_of(s: Slot) -> Option<Operation>
     ensures { result ≡ content_of s }
 {
-    let kind = s.kind;
-    match kind {
-        0x10 => Content::Transmit(Operation::CanTransmit {
+    match s.kind {
+        0x10 => Some(Operation::CanTransmit {
             id: s.id,
             ide: s.first,
             rtr: s.second,
             dl: s.length,
         }),
-        0x11 => Content::Transmit(Operation::FdTransmit {
+        0x11 => Some(Operation::FdTransmit {
             id: s.id,
             ide: s.first,
             brs: s.second,
             esi: s.third,
             dl: s.length,
         }),
-        0x12 => Content::Transmit(Operation::XlTransmit {
+        0x12 => Some(Operation::XlTransmit {
             id: s.id,
             ide: s.first,
             sec: s.second,
@@ -94,7 +71,7 @@ pub fn content_of(s: Slot) -> Content
             af: s.af,
             dl: s.length,
         }),
-        _ => Content::Free,
+        _ => None,
     }
 }
 
@@ -102,41 +79,53 @@ pub fn content_of(s: Slot) -> Content
 pub fn held_in(s: Slot) -> Operation
     ensures { result ≡ held_in (content_of s) }
 {
-    match content_of(s) {
-        Content::Free => Operation::Wakeup,
-        Content::Transmit(op) => op,
-    }
+    content_of(s).unwrap_or(Operation::Wakeup)
 }
 
 // The ID of the Transmit that a slot holds, and 0 for a free one.
+#[tactic(auto, unfolding(crate::specs::Slots::content_of))]
 pub fn id_of(s: Slot) -> u32
     ensures { result ≡ id_of (held_in (content_of s)) }
 {
-    let kind = s.kind;
-    match kind {
-        0x10 => s.id,
-        0x11 => s.id,
-        0x12 => s.id,
+    match s.kind {
+        0x10 | 0x11 | 0x12 => s.id,
         _ => 0,
     }
 }
 
 // The slot that holds a Transmit; a free one for any other operation.
+#[tactic(auto, unfolding(crate::specs::Blocks::slot_of))]
 pub fn slot_of(op: Operation, owner: u8, accepted: u32) -> Slot
     ensures { result ≡ slot_of op owner accepted }
 {
     match op {
-        Operation::FormatError { n: _ } => row(0, 0, 0, 0, 0, 0, 0, 0, 0, 0),
-        Operation::CanTransmit { id, ide, rtr, dl } => row(
-            accepted, id, 0, dl, 0x10, owner, ide, rtr, 0, 0,
-        ),
+        Operation::CanTransmit { id, ide, rtr, dl } => Slot {
+            accepted,
+            id,
+            length: dl,
+            kind: 0x10,
+            owner,
+            first: ide,
+            second: rtr,
+            ..free()
+        },
         Operation::FdTransmit {
             id,
             ide,
             brs,
             esi,
             dl,
-        } => row(accepted, id, 0, dl, 0x11, owner, ide, brs, esi, 0),
+        } => Slot {
+            accepted,
+            id,
+            length: dl,
+            kind: 0x11,
+            owner,
+            first: ide,
+            second: brs,
+            third: esi,
+            ..free()
+        },
         Operation::XlTransmit {
             id,
             ide,
@@ -145,22 +134,24 @@ pub fn slot_of(op: Operation, owner: u8, accepted: u32) -> Slot
             vcid,
             af,
             dl,
-        } => row(accepted, id, af, dl, 0x12, owner, ide, sec, sdt, vcid),
-        Operation::Confirm { id: _ } => row(0, 0, 0, 0, 0, 0, 0, 0, 0, 0),
-        Operation::ArbitrationLost { id: _ } => row(0, 0, 0, 0, 0, 0, 0, 0, 0, 0),
-        Operation::BusError {
-            id: _,
-            error_code: _,
-            error_flag: _,
-            is_sender: _,
-        } => row(0, 0, 0, 0, 0, 0, 0, 0, 0, 0),
-        Operation::Configuration { kind: _, value: _ } => row(0, 0, 0, 0, 0, 0, 0, 0, 0, 0),
-        Operation::Status { status: _ } => row(0, 0, 0, 0, 0, 0, 0, 0, 0, 0),
-        Operation::Wakeup => row(0, 0, 0, 0, 0, 0, 0, 0, 0, 0),
+        } => Slot {
+            accepted,
+            id,
+            af,
+            length: dl,
+            kind: 0x12,
+            owner,
+            first: ide,
+            second: sec,
+            third: sdt,
+            fourth: vcid,
+        },
+        _ => free(),
     }
 }
 
 // Whether a slot holds a frame that meets the content rules. A classic frame first: it then needs no choice among the kinds.
+#[tactic(auto, unfolding(crate::specs::Slots::content_of))]
 pub fn is_legal(s: Slot) -> bool
     ensures { result ≡ legal_content (content_of s) }
 {
