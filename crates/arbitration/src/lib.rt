@@ -236,31 +236,7 @@ fn put_operation(op: Operation, bytes: &[u8], buffer: &mut [u8], at: usize)
     requires op_in_bounds { at + length_of op ≤ length buffer.old }
     ensures { buffer.new ≡ over buffer.old at (encode op bytes.now) }
 {
-    encoder::write(op, bytes, &mut buffer[at..]);
-}
-
-// Lays a Confirm over a buffer from a position on.
-fn put_confirm(id: u32, buffer: &mut [u8], at: usize)
-    requires { (legal (Operation.Confirm id) ≡ true) × (at + length_of (Operation.Confirm id) ≤ length buffer.old) }
-    ensures { buffer.new ≡ over buffer.old at (encode (Operation.Confirm id) []) }
-{
-    encoder::write_confirm(id, b"", &mut buffer[at..]);
-}
-
-// Lays a Bus Error over a buffer from a position on.
-fn put_bus_error(id: u32, code: u8, flag: u8, sender: u8, buffer: &mut [u8], at: usize)
-    requires { (legal (Operation.BusError id code flag sender) ≡ true) × (at + length_of (Operation.BusError id code flag sender) ≤ length buffer.old) }
-    ensures { buffer.new ≡ over buffer.old at (encode (Operation.BusError id code flag sender) []) }
-{
-    encoder::write_bus_error(id, code, flag, sender, b"", &mut buffer[at..]);
-}
-
-// Lays an Arbitration Lost over a buffer from a position on.
-fn put_lost(id: u32, buffer: &mut [u8], at: usize)
-    requires { (legal (Operation.ArbitrationLost id) ≡ true) × (at + length_of (Operation.ArbitrationLost id) ≤ length buffer.old) }
-    ensures { buffer.new ≡ over buffer.old at (encode (Operation.ArbitrationLost id) []) }
-{
-    encoder::write_arbitration_lost(id, b"", &mut buffer[at..]);
+    let _ = encoder::write(op, bytes, &mut buffer[at..]);
 }
 
 // The Error Flag at a node: the primary one where the error is detected.
@@ -292,7 +268,8 @@ fn put_news(
     match e {
         Injection::NoError => {
             if j == owner {
-                put_confirm(slots::id_of(winner), queues, at);
+                let id = slots::id_of(winner);
+                put_operation(Operation::Confirm { id }, b"", queues, at);
                 return;
             }
             if off {
@@ -305,14 +282,13 @@ fn put_news(
                 return;
             }
             let id = slots::id_of(winner);
-            put_bus_error(
+            let op = Operation::BusError {
                 id,
-                code as u8,
-                flag_at(j, detector),
-                (j == owner) as u8,
-                queues,
-                at,
-            );
+                error_code: code as u8,
+                error_flag: flag_at(j, detector),
+                is_sender: (j == owner) as u8,
+            };
+            put_operation(op, b"", queues, at);
         }
     }
 }
@@ -326,7 +302,7 @@ fn put_notice(id: u32, wins: bool, queues: &mut [u8], at: usize) -> usize
     if wins {
         return at;
     }
-    put_lost(id, queues, at);
+    put_operation(Operation::ArbitrationLost { id }, b"", queues, at);
     at + operation::ARBITRATION_LOST_LENGTH
 }
 

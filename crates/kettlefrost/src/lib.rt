@@ -17,7 +17,7 @@ ghost use Rattle.kettlefrost.specs.Calls.{no_operation, read_answer, data_answer
 
 use bus_state::State;
 use decoder::{Cursor, Front};
-use encoder::Written;
+use encoder::WriteError;
 use operation::Operation;
 use outcome::Answer;
 use slots::Slot;
@@ -268,18 +268,18 @@ pub fn kf_data(buffer: &[u8], operation: FlatOperation, next: usize) -> PartAnsw
     }
 }
 
-fn length_written(w: Written) -> usize
+fn length_written(w: Result<usize, WriteError>) -> usize
     ensures { result ≡ length_written w }
 {
-    match w {
-        Written::Done(n) => n,
-        Written::RuleBroken => 0,
-        Written::BufferTooSmall => 0,
-    }
+    w.unwrap_or(0)
 }
 
 // Writes by the code: no operation is built on the way.
-fn write_named(f: FlatOperation, payload: &[u8], buffer: &mut [u8]) -> Written
+fn write_named(
+    f: FlatOperation,
+    payload: &[u8],
+    buffer: &mut [u8],
+) -> Result<usize, WriteError>
     ensures answer { result ≡ answer_named (named f) (length payload.now) (length buffer.old) }
     ensures written { buffer.new ≡ buffer_after_write (named f) payload.now buffer.old }
 {
@@ -297,7 +297,7 @@ fn write_named(f: FlatOperation, payload: &[u8], buffer: &mut [u8]) -> Written
         0x40 => encoder::write_configuration(f.first, f.word, payload, buffer),
         0x41 => encoder::write_status(f.first, payload, buffer),
         0x42 => encoder::write_wakeup(payload, buffer),
-        _ => Written::RuleBroken,
+        _ => Err(WriteError::RuleBroken),
     }
 }
 
