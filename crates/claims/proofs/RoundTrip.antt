@@ -24,7 +24,8 @@ use Rattle.decoder.specs.declared.Front.TheVariants.{End, Fault, Found}
 use Rattle.decoder.specs.declared.Reading.{Reading}
 use Rattle.decoder.specs.declared.Reading.TheVariants as reading
 use Rattle.decoder.specs.declared.Reading.TheVariants.{AtEnd, Faulty}
-use Rattle.encoder.specs.Writing.{written_number, decision, write_outcome, buffer_written, written_of}
+use Rattle.std.specs.Prelude.{Ok, Err}
+use Rattle.encoder.specs.Writing.{Written, written_number, decision, write_outcome, buffer_written, written_of}
 use Rattle.encoder.proofs.Answers.{accepted}
 use Rattle.encoder.specs.declared.WriteError.TheVariants.{RuleBroken, BufferTooSmall}
 use Rattle.codec.specs.Claims.{ReadsAs, WritesAs, after}
