@@ -275,11 +275,7 @@ fn length_written(w: Result<usize, WriteError>) -> usize
 }
 
 // Writes by the code: no operation is built on the way.
-fn write_named(
-    f: FlatOperation,
-    payload: &[u8],
-    buffer: &mut [u8],
-) -> Result<usize, WriteError>
+fn write_named(f: FlatOperation, payload: &[u8], buffer: &mut [u8]) -> Result<usize, WriteError>
     ensures answer { result ≡ answer_named (named f) (length payload.now) (length buffer.old) }
     ensures written { buffer.new ≡ buffer_after_write (named f) payload.now buffer.old }
 {
