@@ -101,8 +101,7 @@ fn move_data(payload: &mut [u8], four: [Slot; 4], at: usize, position: usize, la
     requires frames { Frames four position (last + 1) }
     ensures { payload.new ≡ payload_without four at position (last - position) payload.old }
 {
-    let mut q = position;
-    while q < last {
+    for q in position..last {
         let n = operation::data_length(slots::held_in(four[q + 1])) as usize;
         buffers::shift(
             payload,
@@ -110,7 +109,6 @@ fn move_data(payload: &mut [u8], four: [Slot; 4], at: usize, position: usize, la
             bus_state::BYTES_PER_SLOT * (at + q + 1),
             n,
         );
-        q += 1;
     }
 }
 
@@ -194,13 +192,11 @@ fn has_room(s: State, e: Option<Injection>, owner: usize, size: usize) -> bool
 {
     let attached = s.count as usize;
     let nodes = s.nodes;
-    let mut j = 0;
-    while j < attached {
+    for j in 0..attached {
         let d = nodes[j];
         if bus_state::BYTES_PER_QUEUE < d.fill as usize + owed_length(d, j == owner, e, size) {
             return false;
         }
-        j += 1;
     }
     true
 }
@@ -340,18 +336,14 @@ fn tell_all(
     let count = s.count as usize;
     let slot = bus_state::SLOTS_PER_NODE * owner + position;
     let mut after = s.nodes;
-    let mut j = 0;
-    while j < count {
+    for j in 0..count {
         let d = after[j];
         let mut to = tell(d, j, e, owner, size, winner, bytes, queues);
-        let mut p = bus_state::SLOTS_PER_NODE * j;
-        let end = p + discarded(d) as usize;
-        while p < end {
+        let first = bus_state::SLOTS_PER_NODE * j;
+        for p in first..first + discarded(d) as usize {
             to = put_notice(ids[p], p == slot, queues, to);
-            p += 1;
         }
         after[j] = entry_after(d, j == owner, e, size);
-        j += 1;
     }
     State {
         count: s.count,
