@@ -87,11 +87,3 @@ module _ (s : State) (a : List Slot) (v : valid_state s a ≡ true) where
         past = λ q l. (f q l).most;
         owned = λ q l. (f q l).owner;
       }
-
--- the owner of a pending frame has one to remove
-pub own-pending : (s : State) (j owner : ℕ) → 1 ≤ (node_state s owner).pending → own (eqb j owner) ≤ (node_state s j).pending
-own-pending s j owner h = go (eqb j owner) refl
-  where
-    go : (t : Bool) → eqb j owner ≡ t → own t ≤ (node_state s j).pending
-    go true e = rw (eqb-true j owner e) h
-    go false e = omega arith
