@@ -167,7 +167,7 @@ fn put_operation(op: Operation, bytes: &[u8], buffer: &mut [u8], at: usize)
     requires op_in_bounds { at + length_of op ≤ length buffer.old }
     ensures { buffer.new ≡ over buffer.old at (encode op bytes.now) }
 {
-    encoder::write(op, bytes, &mut buffer[at..]);
+    let _ = encoder::write(op, bytes, &mut buffer[at..]);
 }
 
 // Arbitration Lost for a frame by its ID, unless it is the winner; answers the place after it.
