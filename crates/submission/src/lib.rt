@@ -130,20 +130,18 @@ fn fault_effect(bytes: &[u8]) -> Effect
 fn step_at(buffer: &[u8], at: usize) -> Next
     ensures { NextIs buffer.now at result }
 {
-    let cursor = Cursor { at };
-    match cursor.read(buffer) {
-        Reading::AtEnd => Next::End,
-        Reading::Faulty { number: _, next } => {
-            let end = next.at;
-            let effect = fault_effect(&buffer[at..end]);
-            let step = Step { effect, end };
-            Next::At(step)
-        }
-        Reading::Read { op, next } => {
+    let Some(Reading { item, next }) = (Cursor { at }).read(buffer) else {
+        return Next::End;
+    };
+    let end = next.at;
+    match item {
+        Ok(op) => {
             let effect = operation_effect(op);
-            let end = next.at;
-            let step = Step { effect, end };
-            Next::At(step)
+            Next::At(Step { effect, end })
+        }
+        Err(_) => {
+            let effect = fault_effect(&buffer[at..end]);
+            Next::At(Step { effect, end })
         }
     }
 }
