@@ -60,6 +60,7 @@ fn read_stream(file: File, buffer: &mut [u8; BUFFER_LENGTH]) -> Result<&[u8], Fa
 
 fn decode(rt: HostRuntime, path: &[u8]) -> Result<(), Failure> {
     let file = File::open(&rt, str::from_utf8(path)?)?;
+    // Stays: fs::read and read_to_end allocate, and the memory of the programs is fixed.
     let mut buffer = [0u8; BUFFER_LENGTH];
     print_all(rt.stdout(), read_stream(file, &mut buffer)?);
     Ok(())
@@ -71,24 +72,21 @@ fn say<W: Display + Drop>(mut err: Stderr, what: &[u8], why: W) {
     let _ = writeln!(err, ": {why}");
 }
 
-// Whether the program was given this argument.
-fn has_argument(rt: HostRuntime, i: usize) -> bool {
-    let mut start = [0u8; 1];
-    !matches!(rt.arg(i, &mut start), Err(FillError::NotPresent))
-}
-
 fn main(rt: HostRuntime) {
-    if !has_argument(rt, 1) || has_argument(rt, 2) {
-        let _ = eprintln!(rt; "usage: decode FILE");
-        return;
-    }
+    // Stays: env::args allocates, and the memory of the programs is fixed.
     let mut path = [0u8; PATH_LENGTH];
-    let Ok(n) = rt.arg(1, &mut path) else {
-        say(rt.stderr(), b"FILE", "File name too long");
-        return;
-    };
-    let path = &path[..n];
-    if let Err(failure) = decode(rt, path) {
-        say(rt.stderr(), path, failure);
+    match (rt.arg(1, &mut path), rt.arg(2, &mut [0])) {
+        (Ok(n), Err(FillError::NotPresent)) => {
+            let path = &path[..n];
+            if let Err(failure) = decode(rt, path) {
+                say(rt.stderr(), path, failure);
+            }
+        }
+        (Err(FillError::TooLong), Err(FillError::NotPresent)) => {
+            say(rt.stderr(), b"FILE", "File name too long");
+        }
+        _ => {
+            let _ = eprintln!(rt; "usage: decode FILE");
+        }
     }
 }

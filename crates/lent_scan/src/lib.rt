@@ -9,6 +9,7 @@ ghost use Rattle.outcome.specs.Outcome.{answer_of};
 
 use bus_state::State;
 use outcome::{Answer, Change};
+use scan::Run;
 use slots::Slot;
 
 const SLOTS: usize = bus_state::SLOT_COUNT;
@@ -18,15 +19,15 @@ fn frames_key(slots: &[Slot], key: u64, n: usize, j: usize, round: u32) -> u64
     requires { (length slots.now ≡ 32) × (n ≤ 4) × (j < 8) }
     ensures { result ≡ frames_key n j round slots.now key }
 {
-    let mut run = scan::begin(key);
+    let mut run = Run::begin(key);
     let mut p = 4 * j;
     let end = p + n;
     while p < end {
         let x = slots[p];
-        run = scan::step(run, x, j, p);
+        run = run.step(x, j, p);
         p += 1;
     }
-    scan::key_of(run, round)
+    run.end(round)
 }
 
 // The key of a state with its slots: 0 where they are not valid (01: not sound), else the winner's.
@@ -35,15 +36,14 @@ pub fn scan(slots: &[Slot], s: State) -> u64
     ensures { result ≡ scanned s slots.now }
 {
     let count = scan::attached(s);
-    let round = scan::round_of(s);
-    let nodes = scan::entries_of(s);
+    let nodes = s.nodes;
     let mut key = scan::first_key(s);
     let mut j: usize = 0;
     while j < count {
         let d = nodes[j];
         let entered = scan::entry_key(d, key);
         let n = scan::frame_count(d);
-        key = frames_key(slots, entered, n, j, round);
+        key = frames_key(slots, entered, n, j, s.round);
         j += 1;
     }
     key
