@@ -492,11 +492,6 @@ pub fn submit(
     let at = first_slot(node);
     match checked(s, node, buffer) {
         Ok(d) => carry_buffer(s, at, node as usize, d, buffer, four, payload, queues),
-        Err(refusal) => Change {
-            outcome: Err(refusal),
-            state: s,
-            at,
-            block: four,
-        },
+        Err(refusal) => Change::refused(refusal, s, at, four),
     }
 }

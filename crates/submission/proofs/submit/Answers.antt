@@ -1,7 +1,7 @@
 -- A refusal leaves the slots that were there; else all steps were carried out.
 use Rattle.submission.proofs.Submits.{first_slot_of, laid_again, laid-same, all-taken}
 use Prim.Native.Nat.{◌*◌}
-use mathlib.Core.Path.{sym, ◌∙◌}
+use mathlib.Core.Path.{◌∙◌}
 use native.Mathlib.Omega.{arith}
 use Rattle.submission.proofs.submit.Goals as goal
 
@@ -18,11 +18,12 @@ pub returns-in-Err : goal.returns-in-Err
 returns-in-Err c =
     let a = c.args in
     let f = c.first_slot-at.ensures in
-    record {
+    rw c.refused.ensures
+    (record {
       ended = λ l e. laid-same a.s a.node a.buffer.now c.in-Err.ensures.refused l _ e a.payload.now a.queues.now;
       place = f.0;
       inside = f.1;
-    }
+    })
 
 pub returns-in-Ok : goal.returns-in-Ok
 returns-in-Ok c =
