@@ -37,6 +37,7 @@ impl TryFrom<u32> for Code {
 
     ghost try_from_gives = { λ x r. r ≡ code_from x };
 
+    #[inline(always)]
     fn try_from(x: u32) -> Result<Code, NotInTable> {
         match x {
             0x01 => Ok(Code::FormatError),
@@ -285,7 +286,7 @@ pub const WAKEUP_LENGTH: usize = 8;
 
 pub const FORMAT_ERROR_HEAD: usize = 10;
 
-#[derive(Clone, Copy)]
+#[derive(Clone, Copy, Debug, PartialEq, Eq)]
 pub enum Operation {
     FormatError {
         n: u16,

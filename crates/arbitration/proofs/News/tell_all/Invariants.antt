@@ -5,10 +5,9 @@ use Rattle.arbitration.specs.After.{entries_after, queues_after}
 use Rattle.bus_state.specs.Memory.{node_state, no_node}
 use Rattle.arbitration.specs.Owed.{notices_but}
 use Rattle.buffers.specs.Parts.{over}
-use Rattle.slots.specs.Slots.{content_of, held_in}
 use lib.ListN.{length, get_or}
 use mathlib.Core.Path.{◌≡◌}
-use Rattle.arbitration.proofs.tell_all.Given as goal
+use Rattle.arbitration.proofs.News.tell_all.Given as goal
 
 abbrev pub invariant-loop-p : goal.invariant-loop-p
 invariant-loop-p l = record {
@@ -22,10 +21,10 @@ invariant-loop-p l = record {
 abbrev pub invariant-loop-j : goal.invariant-loop-j
 invariant-loop-j l = record {
   entries :
-      entries_after l.e l.s.nodes l.owner l.size l.j (l.count - l.j) l.after
-      ≡ entries_after l.e l.s.nodes l.owner l.size 0 l.count l.s.nodes;
+      entries_after l.self.error l.s.nodes l.self.owner l.self.size l.j (l.count - l.j) l.after
+      ≡ entries_after l.self.error l.s.nodes l.self.owner l.self.size 0 l.count l.s.nodes;
   queues :
-      queues_after l.e l.s.nodes l.owner l.position (held_in (content_of l.winner)) l.ids l.bytes l.j (l.count - l.j) l.queues
-      ≡ queues_after l.e l.s.nodes l.owner l.position (held_in (content_of l.winner)) l.ids l.bytes 0 l.count l.initial.queues;
+      queues_after l.self.error l.s.nodes l.self.owner l.position l.self.op l.ids l.self.bytes.now l.j (l.count - l.j) l.queues
+      ≡ queues_after l.self.error l.s.nodes l.self.owner l.position l.self.op l.ids l.self.bytes.now 0 l.count l.initial.queues;
   same : (i : ℕ) → l.j ≤ i → get_or l.after i no_node ≡ node_state l.s i;
 }

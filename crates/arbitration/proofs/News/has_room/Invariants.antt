@@ -2,7 +2,7 @@
 use Prim.Native.Nat.{◌-◌}
 use Rattle.arbitration.specs.Owed.{room_from}
 use mathlib.Core.Path.{◌≡◌}
-use Rattle.arbitration.proofs.has_room.Given as goal
+use Rattle.arbitration.proofs.News.has_room.Given as goal
 
 abbrev pub invariant-loop-j : goal.invariant-loop-j
-invariant-loop-j l = room_from l.e l.nodes l.owner l.size l.j (l.attached - l.j) ≡ room_from l.e l.nodes l.owner l.size 0 l.attached
+invariant-loop-j l = room_from l.self.error l.nodes l.self.owner l.self.size l.j (l.attached - l.j) ≡ room_from l.self.error l.nodes l.self.owner l.self.size 0 l.attached
