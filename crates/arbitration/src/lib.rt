@@ -167,31 +167,7 @@ fn put_operation(op: Operation, bytes: &[u8], buffer: &mut [u8], at: usize)
     requires op_in_bounds { at + length_of op ≤ length buffer.old }
     ensures { buffer.new ≡ over buffer.old at (encode op bytes.now) }
 {
-    encoder::write(op, bytes, &mut buffer[at..]);
-}
-
-// Lays a Confirm over a buffer from a position on.
-fn put_confirm(id: u32, buffer: &mut [u8], at: usize)
-    requires { (legal (Operation.Confirm id) ≡ true) × (at + length_of (Operation.Confirm id) ≤ length buffer.old) }
-    ensures { buffer.new ≡ over buffer.old at (encode (Operation.Confirm id) []) }
-{
-    encoder::write_confirm(id, b"", &mut buffer[at..]);
-}
-
-// Lays a Bus Error over a buffer from a position on.
-fn put_bus_error(id: u32, code: u8, flag: u8, sender: u8, buffer: &mut [u8], at: usize)
-    requires { (legal (Operation.BusError id code flag sender) ≡ true) × (at + length_of (Operation.BusError id code flag sender) ≤ length buffer.old) }
-    ensures { buffer.new ≡ over buffer.old at (encode (Operation.BusError id code flag sender) []) }
-{
-    encoder::write_bus_error(id, code, flag, sender, b"", &mut buffer[at..]);
-}
-
-// Lays an Arbitration Lost over a buffer from a position on.
-fn put_lost(id: u32, buffer: &mut [u8], at: usize)
-    requires { (legal (Operation.ArbitrationLost id) ≡ true) × (at + length_of (Operation.ArbitrationLost id) ≤ length buffer.old) }
-    ensures { buffer.new ≡ over buffer.old at (encode (Operation.ArbitrationLost id) []) }
-{
-    encoder::write_arbitration_lost(id, b"", &mut buffer[at..]);
+    let _ = encoder::write(op, bytes, &mut buffer[at..]);
 }
 
 // The Error Flag at a node: the primary one where the error is detected.
@@ -213,7 +189,7 @@ fn put_notice(id: u32, wins: bool, queues: &mut [u8], at: usize) -> usize
     if wins {
         return at;
     }
-    put_lost(id, queues, at);
+    put_operation(Operation::ArbitrationLost { id }, b"", queues, at);
     at + operation::ARBITRATION_LOST_LENGTH
 }
 
@@ -294,7 +270,7 @@ impl<'a> News<'a> {
         match error {
             None => {
                 if j == self.owner {
-                    put_confirm(self.id, queues, at);
+                    put_operation(Operation::Confirm { id: self.id }, b"", queues, at);
                     return;
                 }
                 if off {
@@ -306,14 +282,13 @@ impl<'a> News<'a> {
                 if off {
                     return;
                 }
-                put_bus_error(
-                    self.id,
-                    code as u8,
-                    flag_at(j, detector),
-                    (j == self.owner) as u8,
-                    queues,
-                    at,
-                );
+                let op = Operation::BusError {
+                    id: self.id,
+                    error_code: code as u8,
+                    error_flag: flag_at(j, detector),
+                    is_sender: (j == self.owner) as u8,
+                };
+                put_operation(op, b"", queues, at);
             }
         }
     }

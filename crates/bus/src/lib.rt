@@ -194,7 +194,7 @@ pub fn collect(
         return outcome::answer_of(Err(Refusal::RoomTooSmall), s);
     }
     let at = bus_state::QUEUE_CAPACITY as usize * k;
-    buffers::put_long(buffer, 0, &queues[at..at + fill]);
+    buffers::put(buffer, 0, &queues[at..at + fill]);
     let empty = bus_state::with_fill(d, 0);
     outcome::answer_of(
         Ok(Done::Collected(d.fill)),

@@ -25,10 +25,10 @@ use Rattle.decoder.specs.declared.Front.TheVariants.{End, Fault, Found}
 use Rattle.decoder.specs.declared.Reading.{Reading}
 use Rattle.decoder.specs.declared.Reading.TheVariants as reading
 use Rattle.decoder.specs.declared.Reading.TheVariants.{AtEnd, Faulty}
-use Rattle.encoder.specs.Writing.{written_number, decision, write_outcome, buffer_written, written_of}
+use Rattle.std.specs.Prelude.{Ok, Err}
+use Rattle.encoder.specs.Writing.{Written, written_number, decision, write_outcome, buffer_written, written_of}
 use Rattle.encoder.proofs.Answers.{accepted}
-use Rattle.encoder.specs.declared.Written.{Written}
-use Rattle.encoder.specs.declared.Written.TheVariants.{Done, RuleBroken, BufferTooSmall}
+use Rattle.encoder.specs.declared.WriteError.TheVariants.{RuleBroken, BufferTooSmall}
 use Rattle.codec.specs.Claims.{ReadsAs, WritesAs, after}
 use Rattle.codec.proofs.Claims.{written-reads, read_writes, reads_through}
 use Rattle.kettlefrost.specs.Flat.{flat, named}
@@ -94,7 +94,7 @@ written_back f payload buffer t h before rest = go (named f) refl h
     known : (op : Operation) → named f ≡ Some op → (w : Written) → write_outcome op (length payload) (length buffer) ≡ w
         → written_number w ≡ 0
         → ReadsBack (before ++ (take (length_written w) (written_of op payload buffer) ++ rest)) (length before) f payload (length_written w)
-    known op q (Done n) e z =
+    known op q (Ok n) e z =
         let s = before ++ (take n (written_of op payload buffer) ++ rest) in
         let r : ReadsAs (before ++ (take n (written_of op payload buffer) ++ rest)) (length before) op payload n =
         written-reads op payload buffer n (named-typed f op t q) e before rest in
@@ -106,8 +106,8 @@ written_back f payload buffer t h before rest = go (named f) refl h
           operation = ap (λ (x : ReadAnswer). x.operation) a ∙ flat-named f op q;
           payloads = data_as s (length before) op (length before + n) r.operation ∙ r.payloads;
         }
-    known op q RuleBroken e z = absurd (omega (arith, z))
-    known op q BufferTooSmall e z = absurd (omega (arith, z))
+    known op q (Err RuleBroken) e z = absurd (omega (arith, z))
+    known op q (Err BufferTooSmall) e z = absurd (omega (arith, z))
 
     go : (n : Option Operation) → named f ≡ n → (write_answer n (length payload) (length buffer)).refusal ≡ 0 → Back n
     go None q z = absurd (omega (arith, z))
@@ -213,7 +213,7 @@ unfolding write_outcome decision first_row
 write_number None given room = refl
 write_number (Some op) given room = go (can_write (Some op) given) (fits_in (Some op) room)
   where
-    go : (t u : Bool) → written_number (cond t (cond u (Done (length_of op)) BufferTooSmall) RuleBroken) ≡ cond (not t) 7 (cond
+    go : (t u : Bool) → written_number (cond t (cond u (Ok (length_of op)) (Err BufferTooSmall)) (Err RuleBroken)) ≡ cond (not t) 7 (cond
         (not u) 11 0)
     go true true = refl
     go true false = refl
@@ -222,9 +222,8 @@ write_number (Some op) given room = go (can_write (Some op) given) (fits_in (Som
 -- what an answer of the encoder leaves of a buffer
 outcome-kept : (w : Written) (bytes buffer : List ℕ) → (written_number w ≡ 0 → ⊥) → (length_written w ≡ 0) ×
     (buffer_written w bytes buffer ≡ buffer)
-outcome-kept (Done n) bytes buffer k = absurd (k refl)
-outcome-kept RuleBroken bytes buffer k = (refl, refl)
-outcome-kept BufferTooSmall bytes buffer k = (refl, refl)
+outcome-kept (Ok n) bytes buffer k = absurd (k refl)
+outcome-kept (Err refusal) bytes buffer k = (refl, refl)
 
 write_kept : (n : Option Operation) (payload buffer : List ℕ)
     → let a = write_answer n (length payload) (length buffer) in
@@ -238,14 +237,13 @@ write_kept (Some op) payload buffer k =
 outcome-past : (op : Operation) (payload buffer : List ℕ) (w : Written) → write_outcome op (length payload) (length buffer) ≡ w
     → drop (length_written w) (buffer_written w (encode op payload) buffer) ≡ drop (length_written w) buffer
 unfolding over
-outcome-past op payload buffer (Done n) e =
+outcome-past op payload buffer (Ok n) e =
     let a = accepted e in
     let size : length (encode op payload) ≡ n = encode-length op payload ∙ omega (arith, a.size, a.whole) in
     subst (λ (k : ℕ). drop k (over buffer 0 (encode op payload)) ≡ drop k buffer) size
     (drop-append_seam (encode op payload) (drop (0 + length (encode op payload)) buffer)
     ∙ ap (λ (k : ℕ). drop k buffer) (zero-add (length (encode op payload))))
-outcome-past op payload buffer RuleBroken e = refl
-outcome-past op payload buffer BufferTooSmall e = refl
+outcome-past op payload buffer (Err refusal) e = refl
 
 write_past : (n : Option Operation) (payload buffer : List ℕ)
     → let a = write_answer n (length payload) (length buffer) in

@@ -26,7 +26,7 @@ use Rattle.decoder.proofs.Payload.{data_found}
 use Rattle.decoder.proofs.Streams.{front-nil, items-joined}
 use Rattle.decoder.proofs.Items.{next-item}
 use Rattle.encoder.specs.Writing.{write_outcome}
-use Rattle.encoder.specs.declared.Written.TheVariants.{Done}
+use Rattle.std.specs.Prelude.{Ok}
 use Rattle.encoder.proofs.Answers.{accepted, accepts, written-bytes}
 use Rattle.codec.specs.Claims.{ReadsAs, WrittenReads, WritesAs, ReadWrites, after, ReadsThrough}
 
@@ -90,9 +90,9 @@ writes_as s at op n u e =
     ap length d ∙ length-drop (head_length op) t ∙ omega (arith, f.sized) in (
       b.typed,
       λ buffer room.
-          let answer : write_outcome op (length (data_at s op (at + n))) (length buffer) ≡ Done n =
+          let answer : write_outcome op (length (data_at s op (at + n))) (length buffer) ≡ Ok n =
           accepts op (length (data_at s op (at + n))) (length buffer) f.lawful whole (omega (arith, data_typed op b.typed)) (omega (arith, f.sized))
-          ∙ ap Done (sym f.sized) in
+          ∙ ap Ok (sym f.sized) in
           record {
             answer = answer;
             same = written-bytes op (data_at s op (at + n)) buffer answer ∙ ap (encode op) d ∙ b.same;

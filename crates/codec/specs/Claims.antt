@@ -1,7 +1,7 @@
 -- Internal. Demand 2, of the bytes: what is written reads back the same, and what reads well writes back to the same bytes; and reading
 -- goes through any buffer, piece by piece, to its end. The definitions are those that the contracts of `write`, `read` and `data` name.
 -- Assumes nothing.
-use Rattle.std.specs.Prelude.{◌≡◌, List, ◌++◌, ℕ, ◌+◌, ◌-◌, ◌≤◌, ◌<◌, length, take, drop}
+use Rattle.std.specs.Prelude.{◌≡◌, List, ◌++◌, ℕ, ◌+◌, ◌-◌, ◌≤◌, ◌<◌, length, take, drop, Ok}
 use Rattle.operation.specs.Number.{Bytes}
 use Rattle.operation.specs.Format.{TypedOperation}
 use Rattle.operation.specs.declared.Operation.{Operation}
@@ -10,7 +10,6 @@ use Rattle.decoder.specs.Stream.{items_of, joined}
 use Rattle.decoder.specs.declared.Reading.{Reading}
 use Rattle.decoder.specs.declared.Reading.TheVariants.{AtEnd, Faulty, Read}
 use Rattle.encoder.specs.Writing.{write_outcome, written_of}
-use Rattle.encoder.specs.declared.Written.TheVariants.{Done}
 
 -- op with its data is read at the position at of s, and ends n bytes on
 pub record ReadsAs (s : List ℕ) (at : ℕ) (op : Operation) (payload : List ℕ) (n : ℕ) : Type 0 where
@@ -22,13 +21,13 @@ abbrev pub WrittenReads : Type 0
 WrittenReads =
     (op : Operation) (payload buffer : List ℕ) (n : ℕ)
     → TypedOperation op
-    → write_outcome op (length payload) (length buffer) ≡ Done n
+    → write_outcome op (length payload) (length buffer) ≡ Ok n
     → (before rest : List ℕ)
     → ReadsAs (before ++ (take n (written_of op payload buffer) ++ rest)) (length before) op payload n
 
 -- op with its data is written to a buffer as the n bytes given
 pub record WritesAs (op : Operation) (payload buffer bytes : List ℕ) (n : ℕ) : Type 0 where
-  pub answer : write_outcome op (length payload) (length buffer) ≡ Done n
+  pub answer : write_outcome op (length payload) (length buffer) ≡ Ok n
   pub same : take n (written_of op payload buffer) ≡ bytes
 
 -- Theorem 2: what reads well writes back to the same bytes, into any buffer with room for them; and its numbers fit

@@ -1,13 +1,12 @@
 -- Believed. What the calls for C answer, from what the calls of the library answer.
 -- Assumes nothing.
-use Rattle.std.specs.Prelude.{ℕ, ◌-◌, List, Option, Some, None, cond, eqb, length}
+use Rattle.std.specs.Prelude.{ℕ, ◌-◌, List, Option, Some, None, Ok, Err, cond, eqb, length}
 use Rattle.operation.specs.declared.Operation.{Operation}
 use Rattle.decoder.specs.Reading.{data_at}
 use Rattle.decoder.specs.declared.Reading.{Reading}
 use Rattle.decoder.specs.declared.Reading.TheVariants.{AtEnd, Faulty, Read}
-use Rattle.encoder.specs.Writing.{written_number, write_outcome, written_of}
-use Rattle.encoder.specs.declared.Written.{Written}
-use Rattle.encoder.specs.declared.Written.TheVariants.{Done, RuleBroken, BufferTooSmall}
+use Rattle.encoder.specs.Writing.{Written, written_number, write_outcome, written_of}
+use Rattle.encoder.specs.declared.WriteError.TheVariants.{RuleBroken}
 use Rattle.kettlefrost.specs.Flat.{flat, blank}
 use Rattle.kettlefrost.specs.declared.ReadAnswer.{ReadAnswer}
 use Rattle.kettlefrost.specs.declared.PartAnswer.{PartAnswer}
@@ -33,13 +32,12 @@ data_answer s (Some op) end = part_of (data_at s op end) end
 
 -- the number of 01, and the length written; 0 where it was refused
 abbrev pub length_written : Written → ℕ
-length_written (Done n) = n
-length_written RuleBroken = 0
-length_written BufferTooSmall = 0
+length_written (Ok n) = n
+length_written (Err refusal) = 0
 
 -- an unknown code breaks a rule
 abbrev pub answer_named : Option Operation → ℕ → ℕ → Written
-answer_named None given room = RuleBroken
+answer_named None given room = Err RuleBroken
 answer_named (Some op) given room = write_outcome op given room
 
 abbrev pub write_answer : Option Operation → ℕ → ℕ → WriteAnswer

@@ -17,7 +17,7 @@ ghost use Rattle.kettlefrost.specs.Calls.{no_operation, read_answer, data_answer
 
 use bus_state::State;
 use decoder::{Cursor, Front};
-use encoder::Written;
+use encoder::WriteError;
 use operation::{Code, Operation};
 use outcome::Answer;
 use slots::Slot;
@@ -304,24 +304,20 @@ pub fn kf_data(buffer: &[u8], operation: FlatOperation, next: usize) -> PartAnsw
     }
 }
 
-fn length_written(w: Written) -> usize
+fn length_written(w: Result<usize, WriteError>) -> usize
     ensures { result ≡ length_written w }
 {
-    match w {
-        Written::Done(n) => n,
-        Written::RuleBroken => 0,
-        Written::BufferTooSmall => 0,
-    }
+    w.unwrap_or(0)
 }
 
 // Writes by the code: no operation is built on the way.
 #[tactic(auto, using(crate::proofs::Tables::named_by))]
-fn write_named(f: FlatOperation, payload: &[u8], buffer: &mut [u8]) -> Written
+fn write_named(f: FlatOperation, payload: &[u8], buffer: &mut [u8]) -> Result<usize, WriteError>
     ensures answer { result ≡ answer_named (named f) (length payload.now) (length buffer.old) }
     ensures written { buffer.new ≡ buffer_after_write (named f) payload.now buffer.old }
 {
     let Ok(code) = Code::try_from(f.code) else {
-        return Written::RuleBroken;
+        return Err(WriteError::RuleBroken);
     };
     match code {
         Code::FormatError => encoder::write_format_error(f.length, payload, buffer),

@@ -296,7 +296,7 @@ fn lay_wakeup(queues: &mut [u8], at: usize)
     requires { at + length_of Operation.Wakeup ≤ length queues.old }
     ensures { queues.new ≡ over queues.old at (encode Operation.Wakeup []) }
 {
-    encoder::write_wakeup(b"", &mut queues[at..]);
+    let _ = encoder::write_wakeup(b"", &mut queues[at..]);
 }
 
 // Lays a Format Error that answers some bytes over a buffer from a position on.
@@ -304,7 +304,7 @@ fn lay_format_error(queues: &mut [u8], at: usize, bytes: &[u8])
     requires { (length bytes.now ≤ max_submit) × (at + answer_length (length bytes.now) ≤ length queues.old) }
     ensures { queues.new ≡ over queues.old at (format_error bytes.now) }
 {
-    encoder::write_format_error(bytes.len() as u16, bytes, &mut queues[at..]);
+    let _ = encoder::write_format_error(bytes.len() as u16, bytes, &mut queues[at..]);
 }
 
 // Lays the data of node k's next frame into the bytes of the slot after its last.

@@ -8,24 +8,24 @@ use Rattle.arbitration.specs.Owed.{own, flag_at}
 use lib.Dec.{eqb}
 use mathlib.Core.Bool.{cond}
 use mathlib.Core.List.{[]}
-use mathlib.Core.Path.{◌≡◌, sym}
+use mathlib.Core.Path.{◌≡◌, refl, sym}
 use native.Mathlib.Omega.{arith}
 use Rattle.arbitration.proofs.News.put.Goals as goal
 
-pub put_confirm-requires : goal.put_confirm-requires
-put_confirm-requires c =
+pub put_operation-requires : goal.put_operation-requires
+put_operation-requires c =
     let a = c.args in
     let n = a.self.now in
     let w = news_own a.j n.owner a.off n.op n.bytes.now c.in-None.is c.if-j-self.true in
     let l = encode-length (Confirm n.id) [] in
-    (confirm-lawful _ n.low, omega (arith, rw (w, ← n.named, l) at c.requires))
+    record { op_value = (confirm-lawful _ n.low, refl, omega arith); op_in_bounds = omega (arith, rw (w, ← n.named, l) at c.requires) }
 
 pub returns-then-j-self : goal.returns-then-j-self
 returns-then-j-self c =
     let a = c.args in
     let n = a.self.now in
     let w = news_own a.j n.owner a.off n.op n.bytes.now c.in-None.is c.if-j-self.true in
-    rw (w, ← n.named) c.put_confirm.ensures
+    rw (w, ← n.named) c.put_operation.ensures
 
 pub returns-then-off : goal.returns-then-off
 returns-then-off c =
@@ -34,8 +34,8 @@ returns-then-off c =
     rw (news_none a.j n.owner a.off n.op n.bytes.now c.in-None.is c.if-j-self.false c.if-off.true)
     (sym (over_none _ _))
 
-pub put_operation-requires : goal.put_operation-requires
-put_operation-requires c =
+pub put_operation-requires-in-None : goal.put_operation-requires-in-None
+put_operation-requires-in-None c =
     let a = c.args in
     let n = a.self.now in
     let w = news_other a.j n.owner a.off n.op n.bytes.now c.in-None.is c.if-j-self.false c.if-off.false in
@@ -51,13 +51,13 @@ returns-then-off-2 c =
     let n = a.self.now in
     rw (news_silent a.j n.owner a.off n.op n.bytes.now c.in-Some.is c.if-off-2.true) (sym (over_none _ _))
 
-pub overflow_cast-code : goal.overflow_cast-code
-overflow_cast-code c =
+pub overflow_cast-op : goal.overflow_cast-op
+overflow_cast-op c =
     let n = c.args.self.now in
     omega (arith, code_small _ (legal_code c.in-Some.is n.in_table))
 
-pub put_bus_error-requires : goal.put_bus_error-requires
-put_bus_error-requires c =
+pub put_operation-requires-in-Some : goal.put_operation-requires-in-Some
+put_operation-requires-in-Some c =
     let a = c.args in
     let n = a.self.now in
     let k = legal_code c.in-Some.is n.in_table in
@@ -65,17 +65,17 @@ put_bus_error-requires c =
     let flag = cond (eqb a.j c.in-Some.field-0.detector) 1 2 in
     let l = encode-length (BusError n.id c.in-Some.field-0.code flag (own (eqb a.j n.owner))) [] in
     let f : c.flag_at.result ≡ flag_at a.j c.in-Some.field-0.detector = c.flag_at.ensures in
-    rw (f, byte_own) (
-      error_lawful n.id c.in-Some.field-0.code (eqb a.j c.in-Some.field-0.detector) (eqb a.j n.owner) n.low k,
-      omega (arith, rw (w, ← n.named, l) at c.requires),
-    )
+    rw (f, byte_own) (record {
+      op_value = (error_lawful n.id c.in-Some.field-0.code (eqb a.j c.in-Some.field-0.detector) (eqb a.j n.owner) n.low k, refl, omega arith);
+      op_in_bounds = omega (arith, rw (w, ← n.named, l) at c.requires);
+    })
 
 pub returns-else-off : goal.returns-else-off
 returns-else-off c =
     let a = c.args in
     let n = a.self.now in
     let w = news_other a.j n.owner a.off n.op n.bytes.now c.in-None.is c.if-j-self.false c.if-off.false in
-    rw w c.put_operation.ensures
+    rw w c.put_operation-in-None.ensures
 
 pub returns-else-off-2 : goal.returns-else-off-2
 returns-else-off-2 c =
@@ -83,4 +83,4 @@ returns-else-off-2 c =
     let n = a.self.now in
     let w = news_error a.j n.owner a.off n.op n.bytes.now c.in-Some.is c.if-off-2.false in
     let f : c.flag_at.result ≡ flag_at a.j c.in-Some.field-0.detector = c.flag_at.ensures in
-    rw (w, ← n.named, ← f, ← byte_own) c.put_bus_error.ensures
+    rw (w, ← n.named, ← f, ← byte_own) c.put_operation-in-Some.ensures
