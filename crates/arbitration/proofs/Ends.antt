@@ -22,8 +22,10 @@ use Rattle.bus_model.specs.Submit.{room_for_each}
 use Rattle.bus_model.specs.Calls.{arbitrate_in, rounded}
 use Rattle.bus_model.specs.Refines.{Sized}
 use Rattle.outcome.specs.Ended.{Ended, ended}
-use Rattle.outcome.specs.declared.Outcome.{Outcome}
-use Rattle.outcome.specs.declared.Outcome.TheVariants.{BadInjection, QueueFull, RoundsUsedUp, Idle, Carried}
+use Rattle.outcome.specs.Outcome.{Outcome}
+use Rattle.outcome.specs.declared.Refusal.TheVariants.{BadInjection, QueueFull, RoundsUsedUp}
+use Rattle.outcome.specs.declared.Done.TheVariants.{Idle, Carried}
+use Rattle.std.specs.Prelude.{Ok, Err}
 use Rattle.arbitration.specs.declared.Injection.{Injection}
 use Rattle.scan.specs.declared.Winner.TheVariants.{Nobody, First}
 use Rattle.arbitration.specs.Injections.{injection_of, is_wrong}
@@ -48,11 +50,11 @@ module _ (s : State) (a : List Slot) (payload queues : List ℕ) (e : Injection)
   abbrev memory : Memory
   memory = held s a payload queues
 
-  pub wrong_ended : is_wrong s e ≡ true → kept BadInjection memory ≡ ended (rounded memory (injection_of e))
+  pub wrong_ended : is_wrong s e ≡ true → kept (Err BadInjection) memory ≡ ended (rounded memory (injection_of e))
   unfolding rounded
   wrong_ended q = rw (wrong_is memory e, q)
 
-  pub idle_ended : is_wrong s e ≡ false → best_in s a ≡ Nobody → kept Idle memory ≡ ended (rounded memory (injection_of e))
+  pub idle_ended : is_wrong s e ≡ false → best_in s a ≡ Nobody → kept (Ok Idle) memory ≡ ended (rounded memory (injection_of e))
   unfolding rounded arbitrate_in
   idle_ended q n = rw (wrong_is memory e, q, nobody-wins memory n)
 
@@ -82,11 +84,11 @@ module _ (s : State) (a : List Slot) (payload queues : List ℕ) (e : Injection)
   abbrev answered : Ended
   answered = ended (arbitrate_in m (injection_of e) (wins (pending_at m owner position)))
 
-  pub full-ended : room_from e s.nodes owner size 0 s.count ≡ false → kept QueueFull m ≡ answered
+  pub full-ended : room_from e s.nodes owner size 0 s.count ≡ false → kept (Err QueueFull) m ≡ answered
   unfolding arbitrate_in
   full-ended q = rw (room, q)
 
-  pub used_up_ended : room_from e s.nodes owner size 0 s.count ≡ true → 4_294_967_295 ≤ s.round → kept RoundsUsedUp m ≡ answered
+  pub used_up_ended : room_from e s.nodes owner size 0 s.count ≡ true → 4_294_967_295 ≤ s.round → kept (Err RoundsUsedUp) m ≡ answered
   unfolding arbitrate_in
   used_up_ended q l = rw (room, q, le-leb last_round s.round l)
 
@@ -106,7 +108,7 @@ module _ (s : State) (a : List Slot) (payload queues : List ℕ) (e : Injection)
       (part (2_048 * (4 * owner + position)) (data_length (held_at four position)) payload) 0 s.count queues
       → ◌≡◌ {A = Ended}
       (record {
-        outcome = Carried owner id errored (s.round - (get_or four position free_slot).accepted);
+        outcome = Ok (Carried owner id errored (s.round - (get_or four position free_slot).accepted));
         memory = held state (set_block a (4 * owner) block) payload' queues';
       })
       (ended (carried_out m (injection_of e) (pending_at m owner position)))

@@ -23,7 +23,7 @@ ghost use Rattle.arbitration.specs.Round.{carried_out};
 
 use bus_state::{NodeState, State};
 use operation::Operation;
-use outcome::{Change, Outcome};
+use outcome::{Change, Done, Refusal};
 use scan::Winner;
 use slots::Slot;
 
@@ -450,14 +450,14 @@ fn carry_out(
     let last = d.pending as usize - 1;
     move_data(payload, four, at, position, last);
     let block = block_without(four, position, last);
-    let outcome = Outcome::Carried {
+    let outcome = Done::Carried {
         sender: owner as u8,
         id: slots::id_of(winner),
         errored: is_errored(e),
         age: s.round - winner.accepted,
     };
     Change {
-        outcome,
+        outcome: Ok(outcome),
         state,
         at,
         block,
@@ -485,7 +485,7 @@ fn arbitrate(
     let size = operation::head_length(op) + operation::data_length(op) as usize;
     if !has_room(s, e, owner, size) {
         return Change {
-            outcome: Outcome::QueueFull,
+            outcome: Err(Refusal::QueueFull),
             state: s,
             at: bus_state::SLOTS_PER_NODE * owner,
             block: four,
@@ -493,7 +493,7 @@ fn arbitrate(
     }
     if LAST_ROUND <= s.round {
         return Change {
-            outcome: Outcome::RoundsUsedUp,
+            outcome: Err(Refusal::RoundsUsedUp),
             state: s,
             at: bus_state::SLOTS_PER_NODE * owner,
             block: four,
@@ -522,7 +522,7 @@ pub fn round(
     let at = first_slot(best);
     if is_wrong(s, e) {
         return Change {
-            outcome: Outcome::BadInjection,
+            outcome: Err(Refusal::BadInjection),
             state: s,
             at,
             block: four,
@@ -530,7 +530,7 @@ pub fn round(
     }
     match best {
         Winner::Nobody => Change {
-            outcome: Outcome::Idle,
+            outcome: Ok(Done::Idle),
             state: s,
             at,
             block: four,

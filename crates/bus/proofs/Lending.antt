@@ -3,6 +3,7 @@
 use mathlib.Core.Path.{◌≡◌, refl, sym, ap, ◌∙◌}
 use mathlib.Core.Bool.{Bool, true, false, cond, ◌&&◌}
 use mathlib.Core.List.{List}
+use Rattle.std.specs.Prelude.{Result, Ok, Err, is_ok}
 use native.Mathlib.Omega.{arith}
 use Prim.Native.Nat.{ℕ}
 use lib.Dec.{leb, ltb, eqb}
@@ -14,19 +15,18 @@ use Rattle.bus_state.specs.Valid.{valid_state}
 use Rattle.bus_state.specs.declared.State.{State}
 use Rattle.slots.specs.declared.Slot.{Slot}
 use Rattle.scan.proofs.Scanned.{valid_key, invalid_key}
-use Rattle.outcome.specs.Outcome.{answer_of}
+use Rattle.outcome.specs.Outcome.{Outcome, answer_of}
 use Rattle.outcome.specs.Ended.{Ended, ended}
-use Rattle.outcome.specs.declared.Outcome.{Outcome}
-use Rattle.outcome.specs.declared.Outcome.TheVariants.{WrongMemory, Invalid}
-use Rattle.bus.specs.declared.Test.{Test}
-use Rattle.bus.specs.declared.Test.TheVariants.{Refused, Passed}
+use Rattle.outcome.specs.declared.Refusal.{Refusal}
+use Rattle.outcome.specs.declared.Refusal.TheVariants.{WrongMemory, Invalid}
 use Rattle.bus.specs.Left.{left, leaves}
 use Rattle.bus.specs.Given.{Scanned, Counted}
 use Rattle.bus.specs.Tested.{lent_sizes, tested}
 use Rattle.plain_bus.specs.Refusal.{bad_node_count, invalid, not_attached, room_too_small}
 use Rattle.plain_bus.specs.Calls.{accepted, collected}
 use Rattle.bus_model.specs.Primitives.{entry_at, empty_queue, start_memory}
-use Rattle.bus_model.specs.Calls.{Result, wrong_memory, replies, refusing, checked, attached_in, no_start, start_in, queue_at}
+use Rattle.bus_model.specs.Calls as model
+use Rattle.bus_model.specs.Calls.{wrong_memory, replies, refusing, checked, attached_in, no_start, start_in, queue_at}
 use Rattle.bus_model.specs.Calls.{collection, buffer_after}
 
 pub wrong_second : (p q r : Bool) → q ≡ false → (p && q && r) ≡ false
@@ -40,16 +40,16 @@ unfolding lent_well lent_sizes
 sizes_of m e = rw e
 
 -- 1, 3, and past them
-pub refused-memory : (m : Memory) (r : Result) → lent_well m ≡ false → checked m r ≡ record { reply = wrong_memory; memory = m }
+pub refused-memory : (m : Memory) (r : model.Result) → lent_well m ≡ false → checked m r ≡ record { reply = wrong_memory; memory = m }
 unfolding checked
 refused-memory m r e = rw e
 
-pub refused-invalid : (m : Memory) (r : Result) → lent_well m ≡ true → valid_state m.state
+pub refused-invalid : (m : Memory) (r : model.Result) → lent_well m ≡ true → valid_state m.state
     m.slots ≡ false → checked m r ≡ refusing invalid m
 unfolding checked
 refused-invalid m r e f = rw (e, f)
 
-pub passed : (m : Memory) (r : Result) → lent_well m ≡ true → valid_state m.state m.slots ≡ true → checked m r ≡ r
+pub passed : (m : Memory) (r : model.Result) → lent_well m ≡ true → valid_state m.state m.slots ≡ true → checked m r ≡ r
 unfolding checked
 passed m r e f = rw (e, f)
 
@@ -95,20 +95,16 @@ module _ {s : State} {key : ℕ} {a : List Slot} (h : Scanned s key a) where
 -- ---- by the tests for 1 and 3
 
 -- the three ways that they end
-by_tests : (l k : Bool) (P : Test → Type 0) → (l ≡ false → P (Refused WrongMemory)) → (l ≡ true → k ≡ true → P (Refused Invalid))
-    → (l ≡ true → k ≡ false → P Passed) → P (cond l (cond k (Refused Invalid) Passed) (Refused WrongMemory))
+by_tests : (l k : Bool) (P : Result (Unit {0}) Refusal → Type 0) → (l ≡ false → P (Err WrongMemory)) → (l ≡ true → k ≡ true → P (Err Invalid))
+    → (l ≡ true → k ≡ false → P (Ok tt)) → P (cond l (cond k (Err Invalid) (Ok tt)) (Err WrongMemory))
 by_tests false k P wrong unsound past = wrong refl
 by_tests true true P wrong unsound past = unsound refl refl
 by_tests true false P wrong unsound past = past refl refl
 
-abbrev is_passed : Test → Bool
-is_passed (Refused o) = false
-is_passed Passed = true
-
 -- an outcome that leaves the memory as it was; of tests that are passed it is o
-abbrev ends_as : Memory → Outcome → Test → Ended
-ends_as m o (Refused u) = record { outcome = u; memory = m }
-ends_as m o Passed = record { outcome = o; memory = m }
+abbrev ends_as : Memory → Outcome → Result (Unit {0}) Refusal → Ended
+ends_as m o (Err u) = record { outcome = Err u; memory = m }
+ends_as m o (Ok z) = record { outcome = o; memory = m }
 
 all_true : (p q r : Bool) → (p && q && r) ≡ true → (p ≡ true) × ((q ≡ true) × (r ≡ true))
 all_true true true true e = (refl, (refl, refl))
@@ -117,7 +113,7 @@ all_true true false r e = false_is_true e
 all_true false q r e = false_is_true e
 
 -- what a result leaves, by what it comes to
-pub leaves_as : (r : Result) (o : Outcome) (m : Memory) → ended r ≡ record { outcome = o; memory = m }
+pub leaves_as : (r : model.Result) (o : Outcome) (m : Memory) → ended r ≡ record { outcome = o; memory = m }
     → leaves r ≡ left (answer_of o m.state) m.slots m.payload m.queues
 leaves_as r o m e =
     ap (λ (x : Ended). left (answer_of x.outcome x.memory.state) x.memory.slots x.memory.payload x.memory.queues) e
@@ -149,34 +145,34 @@ module _ {s : State} {slots key : ℕ} {a : List Slot} (h : Counted s slots key 
   scanned_by : lent_sizes slots (length p) (length q) ≡ true → Scanned s key a
   scanned_by l = let n : length a ≡ slot_count = h.count ∙ (each-size l).0 in record { slots = n; key-is = h.key-is n }
 
-  pub refused-ends : (r : Result) (o : Outcome) → tested slots (length p) (length q) key ≡ Refused o
-      → ended (checked (held s a p q) r) ≡ record { outcome = o; memory = held s a p q }
+  pub refused-ends : (r : model.Result) (o : Refusal) → tested slots (length p) (length q) key ≡ Err o
+      → ended (checked (held s a p q) r) ≡ record { outcome = Err o; memory = held s a p q }
   unfolding tested
   refused-ends r o =
       let m = held s a p q in
       by_tests (lent_sizes slots (length p) (length q)) (eqb key 0)
-      (λ t. t ≡ Refused o → ended (checked (held s a p q) r) ≡ record { outcome = o; memory = held s a p q })
-      (λ l e. ap ended (refused-memory m r (sizes ∙ l)) ∙ ap (ends_as m o) e)
-      (λ l k e. ap ended (refused-invalid m r (sizes ∙ l) (invalid_by_key (scanned_by l) (eqb-true key 0 k))) ∙ ap (ends_as m o) e)
-      (λ l k e. false_is_true (sym (ap is_passed e)))
+      (λ t. t ≡ Err o → ended (checked (held s a p q) r) ≡ record { outcome = Err o; memory = held s a p q })
+      (λ l e. ap ended (refused-memory m r (sizes ∙ l)) ∙ ap (ends_as m (Err o)) e)
+      (λ l k e. ap ended (refused-invalid m r (sizes ∙ l) (invalid_by_key (scanned_by l) (eqb-true key 0 k))) ∙ ap (ends_as m (Err o)) e)
+      (λ l k e. false_is_true (sym (ap is_ok e)))
 
-  pub refused_writes : (r : Result) (o : Outcome) → tested slots (length p) (length q) key ≡ Refused o → (b : List ℕ)
+  pub refused_writes : (r : model.Result) (o : Refusal) → tested slots (length p) (length q) key ≡ Err o → (b : List ℕ)
       → buffer_after (checked (held s a p q) r).reply b ≡ b
   unfolding tested
   refused_writes r o =
       let m = held s a p q in
       by_tests (lent_sizes slots (length p) (length q)) (eqb key 0)
-      (λ t. t ≡ Refused o → (b : List ℕ) → buffer_after (checked (held s a p q) r).reply b ≡ b)
-      (λ l e b. ap (λ (z : Result). buffer_after z.reply b) (refused-memory m r (sizes ∙ l)))
-      (λ l k e b. ap (λ (z : Result). buffer_after z.reply b) (refused-invalid m r (sizes ∙ l) (invalid_by_key (scanned_by l)
+      (λ t. t ≡ Err o → (b : List ℕ) → buffer_after (checked (held s a p q) r).reply b ≡ b)
+      (λ l e b. ap (λ (z : model.Result). buffer_after z.reply b) (refused-memory m r (sizes ∙ l)))
+      (λ l k e b. ap (λ (z : model.Result). buffer_after z.reply b) (refused-invalid m r (sizes ∙ l) (invalid_by_key (scanned_by l)
       (eqb-true key 0 k))))
-      (λ l k e. false_is_true (sym (ap is_passed e)))
+      (λ l k e. false_is_true (sym (ap is_ok e)))
 
-  pub past_tests : tested slots (length p) (length q) key ≡ Passed → Past s key a p q
+  pub past_tests : tested slots (length p) (length q) key ≡ Ok tt → Past s key a p q
   unfolding tested
   past_tests =
-      by_tests (lent_sizes slots (length p) (length q)) (eqb key 0) (λ t. t ≡ Passed → Past s key a p q)
-      (λ l e. false_is_true (ap is_passed e)) (λ l k e. false_is_true (ap is_passed e))
+      by_tests (lent_sizes slots (length p) (length q)) (eqb key 0) (λ t. t ≡ Ok tt → Past s key a p q)
+      (λ l e. false_is_true (ap is_ok e)) (λ l k e. false_is_true (ap is_ok e))
       (λ l k e. record {
         scan = scanned_by l;
         keyed = eqb-false key 0 k;

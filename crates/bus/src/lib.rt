@@ -3,7 +3,7 @@
 // meet; what is promised holds for all slots that have it.
 #![tactic(auto)]
 
-ghost use Rattle.std.specs.Prelude.{◌≡◌, List, ◌+◌, ◌≤◌, length};
+ghost use Rattle.std.specs.Prelude.{◌≡◌, List, ◌+◌, ◌≤◌, length, Err};
 ghost use Rattle.slots.specs.Blocks.{block_at};
 ghost use Rattle.slots.specs.declared.Slot.{Slot};
 ghost use Rattle.bus_state.specs.Memory.{held};
@@ -18,7 +18,7 @@ ghost use Rattle.bus.specs.Given.{started_by, Scanned, Counted, Taken};
 ghost use Rattle.bus.specs.Tested.{lent_sizes, tested};
 
 use bus_state::{NodeState, State};
-use outcome::{Answer, Change, Outcome};
+use outcome::{Answer, Change, Done, Outcome, Refusal};
 use slots::Slot;
 
 const SLOTS: usize = bus_state::SLOT_COUNT;
@@ -44,13 +44,6 @@ pub struct Started {
     pub outcome: Outcome,
     pub state: State,
     pub slots: [Slot; 32],
-}
-
-// What the tests for 1 and 3 come to.
-#[derive(Clone, Copy)]
-pub enum Test {
-    Refused(Outcome),
-    Passed,
 }
 
 fn new_entry() -> NodeState
@@ -91,16 +84,16 @@ fn are_lent(slots: usize, payload: usize, queues: usize) -> bool
 }
 
 // The tests for 1 and 3, by what is lent and the key of the slots.
-fn test_lent(slots: usize, payload: usize, queues: usize, key: u64) -> Test
+fn test_lent(slots: usize, payload: usize, queues: usize, key: u64) -> Result<(), Refusal>
     ensures { result ≡ tested slots payload queues key }
 {
     if !are_lent(slots, payload, queues) {
-        return Test::Refused(Outcome::WrongMemory);
+        return Err(Refusal::WrongMemory);
     }
     if key == scan::INVALID {
-        return Test::Refused(Outcome::Invalid);
+        return Err(Refusal::Invalid);
     }
-    Test::Passed
+    Ok(())
 }
 
 pub fn start(a: [Slot; 32], payload: &[u8], queues: &[u8], count: u32) -> Started
@@ -108,7 +101,7 @@ pub fn start(a: [Slot; 32], payload: &[u8], queues: &[u8], count: u32) -> Starte
 {
     if !are_lent(SLOTS, payload.len(), queues.len()) {
         return Started {
-            outcome: Outcome::WrongMemory,
+            outcome: Err(Refusal::WrongMemory),
             state: new_state(0),
             slots: a,
         };
@@ -116,13 +109,13 @@ pub fn start(a: [Slot; 32], payload: &[u8], queues: &[u8], count: u32) -> Starte
     if (2 <= count) & (count <= 8) {
         let free = slots::free();
         return Started {
-            outcome: Outcome::Accepted,
+            outcome: Ok(Done::Accepted),
             state: new_state(count),
             slots: [free; 32],
         };
     }
     Started {
-        outcome: Outcome::BadNodeCount,
+        outcome: Err(Refusal::BadNodeCount),
         state: new_state(0),
         slots: a,
     }
@@ -143,9 +136,9 @@ pub fn submit(
     ensures inside { result.at + 4 ≤ 32 }
 {
     let at = submission::first_slot(node);
-    if let Test::Refused(outcome) = test_lent(SLOTS, payload.len(), queues.len(), key) {
+    if let Err(refusal) = test_lent(SLOTS, payload.len(), queues.len(), key) {
         return Change {
-            outcome,
+            outcome: Err(refusal),
             state: s,
             at,
             block: four,
@@ -171,9 +164,9 @@ pub fn round(
     ensures inside { result.at + 4 ≤ 32 }
 {
     let at = scan::winner_block(key);
-    if let Test::Refused(outcome) = test_lent(SLOTS, payload.len(), queues.len(), key) {
+    if let Err(refusal) = test_lent(SLOTS, payload.len(), queues.len(), key) {
         return Change {
-            outcome,
+            outcome: Err(refusal),
             state: s,
             at,
             block: four,
@@ -198,23 +191,23 @@ pub fn collect(
     ensures left { (a : List Slot) → Counted s slots key a → left result a payload.now queues.now ≡ leaves (collect_in (held s a payload.now queues.now) node (length buffer.old)) }
     ensures written { (a : List Slot) → Counted s slots key a → buffer.new ≡ buffer_after (collect_in (held s a payload.now queues.now) node (length buffer.old)).reply buffer.old }
 {
-    if let Test::Refused(outcome) = test_lent(slots, payload.len(), queues.len(), key) {
-        return outcome::answer_of(outcome, s);
+    if let Err(refusal) = test_lent(slots, payload.len(), queues.len(), key) {
+        return outcome::answer_of(Err(refusal), s);
     }
     if s.count <= node {
-        return outcome::answer_of(Outcome::NotAttached, s);
+        return outcome::answer_of(Err(Refusal::NotAttached), s);
     }
     let k = node as usize;
     let d = bus_state::entry(s, k);
     let fill = d.fill as usize;
     if buffer.len() < fill {
-        return outcome::answer_of(Outcome::RoomTooSmall, s);
+        return outcome::answer_of(Err(Refusal::RoomTooSmall), s);
     }
     let at = bus_state::QUEUE_CAPACITY as usize * k;
     buffers::put_long(buffer, 0, &queues[at..at + fill]);
     let empty = bus_state::with_fill(d, 0);
     outcome::answer_of(
-        Outcome::Collected(d.fill),
+        Ok(Done::Collected(d.fill)),
         bus_state::with_entry(s, k, empty),
     )
 }
@@ -222,15 +215,15 @@ pub fn collect(
 // For the public calls: an answer without the slots' part, and the parts of a start.
 
 pub fn wrong_memory(s: State) -> Answer
-    ensures { result ≡ answer_of Outcome.WrongMemory s }
+    ensures { result ≡ answer_of (Err Refusal.WrongMemory) s }
 {
-    outcome::answer_of(Outcome::WrongMemory, s)
+    outcome::answer_of(Err(Refusal::WrongMemory), s)
 }
 
 pub fn no_start() -> Answer
-    ensures { result ≡ answer_of Outcome.WrongMemory (new_state 0) }
+    ensures { result ≡ answer_of (Err Refusal.WrongMemory) (new_state 0) }
 {
-    outcome::answer_of(Outcome::WrongMemory, new_state(0))
+    outcome::answer_of(Err(Refusal::WrongMemory), new_state(0))
 }
 
 pub fn answer_started(c: Started) -> Answer

@@ -7,6 +7,7 @@ use mathlib.Core.List.{List}
 use lib.Dec.{eqb}
 use lib.ListN.{length, take, drop}
 use lib.Seq.{take-append_seam}
+use Rattle.std.specs.Prelude.{Ok, Err}
 use Rattle.buffers.specs.Parts.{over}
 use Rattle.plain_bus.specs.Refusal.{Refusal, number_of, bad_node_count, invalid, not_attached, buffer_too_long, bad_injection, four_pending, queue_full, rounds_used_up, room_too_small}
 use Rattle.plain_bus.specs.Calls.{Answer, refused, accepted, idle, carried, collected, is_done, answer_number, bytes_given}
@@ -14,10 +15,9 @@ use Rattle.bus_state.specs.Memory.{Memory, held}
 use Rattle.bus_state.specs.declared.State.{State}
 use Rattle.bus_model.specs.Calls.{Reply, answers, Result, buffer_after}
 use Rattle.bus_model.specs.Session.{call_in}
-use Rattle.outcome.specs.Outcome.{refusal_is, refusal_row, answer_of}
+use Rattle.outcome.specs.Outcome.{Outcome, refusal_is, refusal_number, refusal_row, answer_of}
 use Rattle.outcome.specs.Ended.{outcome_is}
-use Rattle.outcome.specs.declared.Outcome.{Outcome}
-use Rattle.outcome.specs.declared.Outcome.TheVariants.{WrongMemory, BadNodeCount, Invalid, NotAttached, BufferTooLong, BadInjection, FourPending, QueueFull, RoundsUsedUp, RoomTooSmall, Accepted, Idle, Carried, Collected}
+use Rattle.outcome.specs.declared.Done.TheVariants.{Accepted, Idle, Carried, Collected}
 use Rattle.bus.specs.Left.{leaves}
 use Rattle.claims.specs.Demands.{Call, submits, arbitrates, collects, plain_call}
 use Rattle.claims.proofs.Model.{left_by, memory_of}
@@ -26,20 +26,11 @@ use Rattle.claims.proofs.Model.{left_by, memory_of}
 
 -- an answer has the state that it was made with
 answer-state : (o : Outcome) (s : State) → (answer_of o s).state ≡ s
-answer-state WrongMemory s = refl
-answer-state BadNodeCount s = refl
-answer-state Invalid s = refl
-answer-state NotAttached s = refl
-answer-state BufferTooLong s = refl
-answer-state BadInjection s = refl
-answer-state FourPending s = refl
-answer-state QueueFull s = refl
-answer-state RoundsUsedUp s = refl
-answer-state RoomTooSmall s = refl
-answer-state Accepted s = refl
-answer-state Idle s = refl
-answer-state (Carried sender id errored age) s = refl
-answer-state (Collected n) s = refl
+answer-state (Err refusal) s = refl
+answer-state (Ok Accepted) s = refl
+answer-state (Ok Idle) s = refl
+answer-state (Ok (Carried sender id errored age)) s = refl
+answer-state (Ok (Collected n)) s = refl
 
 pub left-state : (r : Result) → (leaves r).answer.state ≡ r.memory.state
 left-state r = answer-state (outcome_is r.reply) r.memory.state
@@ -57,17 +48,21 @@ left-call m (collects node buffer) = refl
 
 -- ---- the number and the bytes
 
--- a refusal gives only its number
-pub refusal_row_lem : (r : Refusal) (s : State) → answer_of (refusal_is r) s ≡ refusal_row (number_of r) s
-refusal_row_lem bad_node_count s = refl
-refusal_row_lem invalid s = refl
-refusal_row_lem not_attached s = refl
-refusal_row_lem buffer_too_long s = refl
-refusal_row_lem bad_injection s = refl
-refusal_row_lem four_pending s = refl
-refusal_row_lem queue_full s = refl
-refusal_row_lem rounds_used_up s = refl
-refusal_row_lem room_too_small s = refl
+-- a refusal has the number of the plain bus's
+pub refusal_number_lem : (r : Refusal) → refusal_number (refusal_is r) ≡ number_of r
+refusal_number_lem bad_node_count = refl
+refusal_number_lem invalid = refl
+refusal_number_lem not_attached = refl
+refusal_number_lem buffer_too_long = refl
+refusal_number_lem bad_injection = refl
+refusal_number_lem four_pending = refl
+refusal_number_lem queue_full = refl
+refusal_number_lem rounds_used_up = refl
+refusal_number_lem room_too_small = refl
+
+-- and gives only that
+pub refusal_row_lem : (r : Refusal) (s : State) → answer_of (Err (refusal_is r)) s ≡ refusal_row (number_of r) s
+refusal_row_lem r s = ap (λ n. refusal_row n s) (refusal_number_lem r)
 
 -- which is not 0
 refusal-number : (r : Refusal) → eqb (number_of r) 0 ≡ false
@@ -90,7 +85,7 @@ done-number (carried sender id errored age) = refl
 done-number (collected bytes) = refl
 
 pub answer_number_lem : (a : Answer) (s : State) → (answer_of (outcome_is (answers a)) s).number ≡ answer_number a
-answer_number_lem (refused r) s = rw (refusal_row_lem r s)
+answer_number_lem (refused r) s = refusal_number_lem r
 answer_number_lem accepted s = refl
 answer_number_lem idle s = refl
 answer_number_lem (carried sender id errored age) s = refl
@@ -111,7 +106,7 @@ left-answer r a e =
 pub front-given : (a : Answer) (s : State) (buffer : List ℕ)
     → take (answer_of (outcome_is (answers a)) s).length (buffer_after (answers a) buffer) ≡ bytes_given a
 unfolding over
-front-given (refused r) s buffer = rw (refusal_row_lem r s)
+front-given (refused r) s buffer = refl
 front-given accepted s buffer = refl
 front-given idle s buffer = refl
 front-given (carried sender id errored age) s buffer = refl

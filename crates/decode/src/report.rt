@@ -38,15 +38,15 @@ fn fields(out: Stdout, at: usize, kind: &[u8]) -> Line {
 fn transmit(out: Stdout, at: usize, kind: &[u8], id: u32, ide: u8) -> Line {
     let line = fields(out, at, kind).name(b"ID");
     if ide == 0 {
-        line.text(b"     ").hex12(id).number(b"Ide", 0, 1)
+        line.text(b"     ").hex(id, 3).number(b"Ide", 0, 1)
     } else {
-        line.hex32(id).number(b"Ide", ide as u32, 1)
+        line.hex(id, 8).number(b"Ide", ide as u32, 1)
     }
 }
 
 // An operation up to an ID that comes without Ide.
 fn identified(out: Stdout, at: usize, kind: &[u8], id: u32) -> Line {
-    fields(out, at, kind).name(b"ID").hex32(id)
+    fields(out, at, kind).name(b"ID").hex(id, 8)
 }
 
 fn format_error(out: Stdout, at: usize, n: u16, data: &[u8]) {
@@ -89,13 +89,13 @@ fn xl_transmit(
         .number(b"Sec", sec as u32, 1)
         .name(b"SDT")
         .text(b"0x")
-        .hex8(sdt)
+        .hex(u32::from(sdt), 2)
         .name(b"VCID")
         .text(b"0x")
-        .hex8(vcid)
+        .hex(u32::from(vcid), 2)
         .name(b"AF")
         .text(b"0x")
-        .hex32(af)
+        .hex(af, 8)
         .number(b"DL", dl as u32, 4)
         .bytes(data)
         .end();

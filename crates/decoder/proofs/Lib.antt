@@ -6,3 +6,4 @@ pub mod Items
 pub mod Payload
 pub mod Encoded
 pub mod Decoded
+pub mod Codes

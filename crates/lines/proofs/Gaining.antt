@@ -1,47 +1,28 @@
--- Laws of what a line gains: a byte, and bytes behind bytes.
+-- Laws of what a line holds after bytes: those behind others, and one more of a list, a blank or a byte apart.
 -- Assumes nothing.
-use mathlib.Core.Path.{◌≡◌, refl}
-use mathlib.Core.List.{List, [], ◌∷◌, ◌++◌}
-use Prim.Native.Nat.{ℕ, ◌+◌, ◌≤◌, ◌<◌}
-use native.Mathlib.Numerals.{add-one}
-use native.Mathlib.Omega.{arith}
-use borrow.Author.Tests.{lt-ltb, le-ltb}
-use lib.ListN.{length, set, length-append}
-use lib.Seq.{take-suc-set}
-use Rattle.lines.specs.declared.Line.{Line}
-use Rattle.lines.specs.Text.{space, after, after_all, Gains}
+use Rattle.std.proofs.Common.{◌≡◌, ℕ, ◌+◌, ◌<◌, List, [], ◌∷◌, ◌++◌, length, take, get_or, refl, ap, add-one}
+use lib.ListN.{replicate-append-replicate}
+use lib.Seq.{take-suc}
+use Rattle.lines.specs.Text.{after, after_all, blanks, hex_digits, apart}
 
-pub after-append : (text xs ys : List ℕ) → after_all text (xs ++ ys) ≡ after_all (after_all text xs) ys
-after-append text [] ys = refl
-after-append text (x ∷ xs) ys = after-append (after text x) xs ys
+pub after_append : (text xs ys : List ℕ) → after_all text (xs ++ ys) ≡ after_all (after_all text xs) ys
+after_append text [] ys = refl
+after_append text (x ∷ xs) ys = after_append (after text x) xs ys
 
-pub gains-none : {a : Line} → Gains a a []
-gains-none = record { gained = λ text held. held }
+pub one_more : (text bytes : List ℕ) (i : ℕ) → i < length bytes
+    → after_all text (take (i + 1) bytes) ≡ after (after_all text (take i bytes)) (get_or bytes i 0)
+one_more text bytes i h = rw (add-one i, take-suc bytes i 0 h, after_append text (take i bytes) (get_or bytes i 0 ∷ []))
 
-pub gains_then : {a b c : Line} {xs ys : List ℕ} → Gains a b xs → Gains b c ys → Gains a c (xs ++ ys)
-gains_then {xs} {ys} g h = record { gained = λ text held. rw (after-append text xs ys) (h.gained _ (g.gained text held)) }
+pub one_blank : (text : List ℕ) (n : ℕ) → after_all text (blanks (n + 1)) ≡ after (after_all text (blanks n)) 32
+one_blank text n = rw (← replicate-append-replicate {A = ℕ} n 1 32, after_append text (blanks n) (32 ∷ []))
 
-pub gains_as : {a b : Line} {xs ys : List ℕ} → Gains a b xs → xs ≡ ys → Gains a b ys
-gains_as g e = rw e at g
+apart-append : (xs ys : List ℕ) → apart (xs ++ ys) ≡ apart xs ++ apart ys
+apart-append [] ys = refl
+apart-append (x ∷ xs) ys = ap (λ (l : List ℕ). blanks 1 ++ hex_digits 2 x ++ l) (apart-append xs ys)
 
--- a byte stored behind what a line holds, and at the front of a full one
-module _ (line : Line) (byte : ℕ) (room : length line.text ≡ space) where
-  pub put_behind : line.length < space → Gains line (record { out = line.out; text = set line.text line.length byte; length = line.length + 1 }) (byte ∷ [])
-  unfolding after
-  put_behind h = record {
-    gained = λ text held.
-        let l : length text < space = omega (arith, held.count) in
-        rw (lt-ltb (length text) space l)
-        (record {
-          count = rw (length-append text (byte ∷ [])) (omega (arith, held.count));
-          bytes = rw (add-one line.length, take-suc-set line.text line.length byte (omega arith), held.bytes);
-        });
-  }
+pub one_apart : (text bytes : List ℕ) (i : ℕ) → i < length bytes
+    → after_all text (apart (take (i + 1) bytes)) ≡ after_all (after (after_all text (apart (take i bytes))) 32) (hex_digits 2 (get_or bytes i 0))
+one_apart text bytes i h =
+    rw (add-one i, take-suc bytes i 0 h, apart-append (take i bytes) (get_or bytes i 0 ∷ []), after_append text (apart (take i bytes)) (32 ∷ hex_digits 2 (get_or bytes i 0)))
 
-  pub put_first : space ≤ line.length → Gains line (record { out = line.out; text = set line.text 0 byte; length = 0 + 1 }) (byte ∷ [])
-  unfolding after
-  put_first h = record {
-    gained = λ text held.
-        let l : space ≤ length text = omega (arith, held.count) in
-        rw (le-ltb (length text) space l) (record { count = refl; bytes = take-suc-set line.text 0 byte (omega arith) });
-  }
+pub ruleset gaining = (after_append, one_more, one_blank, one_apart)

@@ -1,2 +1,1 @@
 pub mod Gaining
-pub mod Spelling

@@ -1,18 +1,12 @@
--- Internal. What a line of text holds, and how the bytes put on it are spelled: blanks, names, numbers. What was written to standard
--- output is no part of it.
+-- Internal. How the bytes put on a line are spelled, blanks, names, numbers, and what the line holds after them. What was written to
+-- standard output is no part of it.
 -- Assumes nothing.
-use Rattle.std.specs.Prelude.{ℕ, zero, suc, ◌+◌, ◌-◌, ◌/◌, ◌%◌, ◌≡◌, cond, List, [], ◌∷◌, ◌++◌, ltb, length, take, drop, replicate}
+use Rattle.std.specs.Prelude.{ℕ, zero, suc, ◌+◌, ◌-◌, ◌/◌, ◌%◌, ◌≡◌, cond, List, [], ◌∷◌, ◌++◌, ltb, length, drop, replicate}
 use Rattle.io.specs.Digits.{last_digits, IsDigitCount}
-use Rattle.lines.specs.declared.Line.{Line}
 
 -- the bytes that a line has room for
 abbrev pub space : ℕ
 space = 512
-
--- a line holds this text
-pub record Holds (line : Line) (text : List ℕ) : Type 0 where
-  pub count : line.length ≡ length text
-  pub bytes : take line.length line.text ≡ text
 
 -- what a line holds after a byte is put on it: a full line is written first, and then holds that byte alone
 unfoldable pub after : List ℕ → ℕ → List ℕ
@@ -22,10 +16,6 @@ after text byte = cond (ltb (length text) space) (text ++ (byte ∷ [])) (byte �
 abbrev pub after_all : List ℕ → List ℕ → List ℕ
 after_all text [] = text
 after_all text (byte ∷ bytes) = after_all (after text byte) bytes
-
--- the second line is the first with these bytes put on it
-pub record Gains (line r : Line) (bytes : List ℕ) : Type 0 where
-  pub gained : (text : List ℕ) → Holds line text → Holds r (after_all text bytes)
 
 -- some blanks
 abbrev pub blanks : ℕ → List ℕ
@@ -60,7 +50,7 @@ named name = blanks 2 ++ name ++ blanks 1
 
 -- the second line is the first with a text put on it and then a number in decimal: as few digits as hold it, and blanks before them up
 -- to a width
-pub record GainsNumber (line r : Line) (text : List ℕ) (x width : ℕ) : Type 0 where
+pub record GainsNumber (line r text : List ℕ) (x width : ℕ) : Type 0 where
   pub places : ℕ
   pub fewest : IsDigitCount 10 1 x places
-  pub gains : Gains line r (text ++ blanks (width - places) ++ last_digits 10 places x)
+  pub gains : r ≡ after_all line (text ++ blanks (width - places) ++ last_digits 10 places x)

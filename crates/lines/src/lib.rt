@@ -1,18 +1,29 @@
 // A line of text on its way to standard output. It is written where it ends, and in parts where it is longer than SPACE.
-#![tactic(auto)]
+#![tactic(auto, using(crate::proofs::Gaining::gaining))]
 
-ghost use Rattle.std.specs.Prelude.{◌≡◌, [], ◌∷◌, ◌-◌, ◌≤◌, ◌<◌};
-ghost use Rattle.lines.specs.Text.{space, Holds, Gains, blanks, hex_digit, hex_digits, apart, hex_bytes, field, named, GainsNumber};
+ghost use Rattle.std.specs.Prelude.{◌≡◌, [], ◌-◌, ◌<◌, length};
+ghost use Rattle.lines.specs.Text.{after, after_all, blanks, hex_digit, hex_digits, apart, hex_bytes, field, named, GainsNumber};
 
+use arrayvec::ArrayVec;
+use std::convert::AsSlice;
 use std::io::Stdout;
+use std::marker::Model;
 
 const SPACE: usize = 512;
 
 #[derive(Drop)]
 pub struct Line {
     out: Stdout,
-    text: [u8; SPACE],
-    length: usize,
+    text: ArrayVec<u8, SPACE>,
+}
+
+// A clause sees a line as the bytes that it holds.
+impl Model for Line {
+    ghost use Rattle.std.specs.Prelude.{ℕ, List};
+
+    ghost Value = { List ℕ };
+
+    ghost view = { λ line. line.text.items };
 }
 
 // The hexadecimal digit of a number.
@@ -30,66 +41,51 @@ fn write(out: Stdout, text: &[u8]) {
 
 impl Line {
     pub fn new(out: Stdout) -> Self
-        ensures { Holds result [] }
+        ensures { result ≡ [] }
     {
         Line {
             out,
-            text: [0; SPACE],
-            length: 0,
+            text: ArrayVec::new(),
         }
     }
 
+    #[tactic(auto, unfolding(crate::specs::Text::after))]
     // One byte. A full line is written first, which leaves it empty.
-    fn put(self, byte: u8) -> Self
-        ensures length_le_space { result.length ≤ space }
-        ensures gains { Gains self result (byte ∷ []) }
+    fn put(&mut self, byte: u8)
+        ensures { self.new ≡ after self.old byte }
     {
-        let out = self.out;
-        let mut text = self.text;
-        let mut at = self.length;
-        if SPACE <= at {
-            write(out, &text);
-            at = 0;
+        if self.text.is_full() {
+            write(self.out, self.text.as_slice());
+            self.text.clear();
         }
-        text[at] = byte;
-        Line {
-            out,
-            text,
-            length: at + 1,
-        }
+        self.text.push(byte);
     }
 
-    pub fn text(self, text: &[u8]) -> Self
-        ensures { Gains self result text.now }
+    pub fn text<T: AsSlice<u8> + Drop>(mut self, text: T) -> Self
+        ensures { result ≡ after_all self (T.items text) }
     {
-        let mut line = self;
-        let mut i = 0;
-        while i < text.len() {
-            line = line.put(text[i]);
-            i += 1;
+        for &byte in text.as_slice() {
+            self.put(byte);
         }
-        line
+        self
     }
 
-    // Blanks from one column up to another.
-    fn fill(self, from: usize, to: usize) -> Self
-        ensures { Gains self result (blanks (to - from)) }
+    // Some blanks.
+    fn fill(mut self, count: usize) -> Self
+        ensures { result ≡ after_all self (blanks count) }
     {
-        let mut line = self;
-        let mut i = from;
-        while i < to {
-            line = line.put(b' ');
-            i += 1;
+        for _ in 0..count {
+            self.put(b' ');
         }
-        line
+        self
     }
 
     // Blanks up to a column; the first column is 0.
     pub fn column(self, column: usize) -> Self
-        ensures { Gains self result (blanks (column - self.length)) }
+        ensures { result ≡ after_all self (blanks (column - length self)) }
     {
-        let length = self.length;
-        self.fill(length, column)
+        let length = self.text.len();
+        self.fill(column.saturating_sub(length))
     }
 
     // A number, with blanks before it where it is shorter than the width.
@@ -98,85 +94,70 @@ impl Line {
     {
         let mut digits = [0u8; 20];
         let n = io::decimal(x, &mut digits);
-        self.fill(n, width).text(&digits[..n])
+        self.fill(width.saturating_sub(n)).text(&digits[..n])
     }
 
-    // Two digits.
-    pub fn hex8(self, x: u8) -> Self
-        ensures { Gains self result (hex_digits 2 x) }
+    // As many of a number's last digits, in hexadecimal.
+    pub fn hex(self, x: u32, digits: usize) -> Self
+        ensures { result ≡ after_all self (hex_digits digits x) }
     {
-        self.put(digit(x / 16)).put(digit(x % 16))
-    }
-
-    // Three digits.
-    pub fn hex12(self, x: u32) -> Self
-        ensures { Gains self result (hex_digits 3 x) }
-    {
-        self.put(digit((x / 256 % 16) as u8)).hex8((x % 256) as u8)
-    }
-
-    // Eight digits.
-    pub fn hex32(self, x: u32) -> Self
-        ensures { Gains self result (hex_digits 8 x) }
-    {
-        self.hex8((x / 16777216) as u8)
-            .hex8((x / 65536 % 256) as u8)
-            .hex8((x / 256 % 256) as u8)
-            .hex8((x % 256) as u8)
+        if digits == 0 {
+            return self;
+        }
+        let mut line = self.hex(x / 16, digits - 1);
+        line.put(digit((x % 16) as u8));
+        line
     }
 
     // Bytes, two digits each, one blank before each.
     fn apart(self, bytes: &[u8]) -> Self
-        ensures { Gains self result (apart bytes.now) }
+        ensures { result ≡ after_all self (apart bytes.now) }
     {
         let mut line = self;
-        let mut i = 0;
-        while i < bytes.len() {
-            line = line.put(b' ').hex8(bytes[i]);
-            i += 1;
+        for &byte in bytes {
+            line.put(b' ');
+            line = line.hex(u32::from(byte), 2);
         }
         line
     }
 
     // Bytes, two digits each, one blank between.
-    pub fn hex(self, bytes: &[u8]) -> Self
-        ensures { Gains self result (hex_bytes bytes.now) }
+    pub fn hex_bytes(self, bytes: &[u8]) -> Self
+        ensures { result ≡ after_all self (hex_bytes bytes.now) }
     {
-        if bytes.len() == 0 {
-            return self;
+        match bytes.split_first() {
+            Some((&first, rest)) => self.hex(u32::from(first), 2).apart(rest),
+            None => self,
         }
-        self.hex8(bytes[0]).apart(&bytes[1..])
     }
 
     // Bytes behind two blanks; nothing where there are none.
     pub fn bytes(self, bytes: &[u8]) -> Self
-        ensures { Gains self result (field bytes.now) }
+        ensures { result ≡ after_all self (field bytes.now) }
     {
-        if bytes.len() == 0 {
+        if bytes.is_empty() {
             return self;
         }
-        self.fill(0, 2).hex(bytes)
+        self.fill(2).hex_bytes(bytes)
     }
 
     // The name of a field, two blanks before it and one behind it.
-    pub fn name(self, name: &[u8]) -> Self
-        ensures { Gains self result (named name.now) }
+    pub fn name<T: AsSlice<u8> + Drop>(self, name: T) -> Self
+        ensures { result ≡ after_all self (named (T.items name)) }
     {
-        self.fill(0, 2).text(name).put(b' ')
+        self.fill(2).text(name).fill(1)
     }
 
     // A field that is a number.
-    pub fn number(self, name: &[u8], x: u32, width: usize) -> Self
-        ensures { GainsNumber self result (named name.now) x width }
+    pub fn number<T: AsSlice<u8> + Drop>(self, name: T, x: u32, width: usize) -> Self
+        ensures { GainsNumber self result (named (T.items name)) x width }
     {
-        self.name(name).decimal(x as u64, width)
+        self.name(name).decimal(u64::from(x), width)
     }
 
     // A line feed, and the line is written.
-    pub fn end(self) {
-        let line = self.put(b'\n');
-        let text = line.text;
-        let n = line.length;
-        write(line.out, &text[..n]);
+    pub fn end(mut self) {
+        self.put(b'\n');
+        write(self.out, self.text.as_slice());
     }
 }

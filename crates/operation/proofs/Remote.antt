@@ -18,11 +18,11 @@ one_sum (suc zero) (suc d) =
 one_sum (suc (suc r)) dl = rw (lt-leb (8 * suc (suc r) + dl) 8 (omega arith), lt-leb (suc (suc r)) 1 (omega arith))
 
 -- the rules of a CAN Transmit, with these three as one test
-pub can-legal :
+pub can_legal :
     (id ide rtr dl : ℕ) →
     (is_bit ide && leb id (max_id ide) && (is_bit rtr && can_length dl && remote_rule rtr dl)) ≡ legal (CanTransmit id ide rtr dl)
 unfolding all_after rules legal
-can-legal id ide rtr dl = three-more (is_bit ide && leb id (max_id ide)) (is_bit rtr) (can_length dl) (remote_rule rtr dl)
+can_legal id ide rtr dl = three-more (is_bit ide && leb id (max_id ide)) (is_bit rtr) (can_length dl) (remote_rule rtr dl)
   where
     three-more : (x a b c : Bool) → (x && (a && b && c)) ≡ (x && a && b && c)
     three-more true a b c = refl

@@ -2,4 +2,5 @@ pub mod Number
 pub mod Format
 pub mod Rules
 pub mod Kinds
+pub mod Tables
 pub mod Edges

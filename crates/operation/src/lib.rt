@@ -1,9 +1,11 @@
 // The ten operations of the standard's CAN chapter (CAN, CAN FD, CAN XL): their fields, sizes and content rules.
 // Payload bytes stay outside, in the buffer that an operation is read from or written to.
-#![tactic(auto)]
+#![tactic(auto, unfolding(crate::specs::Rules::all_after, crate::specs::Rules::rules, crate::specs::Rules::legal))]
 
 ghost use Rattle.std.specs.Prelude.{◌≡◌, ◌≤◌, ◌&&◌};
 ghost use Rattle.operation.specs.Format.{head_length, data_length, configuration_length};
+ghost use Rattle.operation.specs.Tables.{code_from, error_code_from, error_flag_from, status_from, configuration_kind_from, behaviour_from};
+ghost use Rattle.operation.specs.Tables.{error_code_name, error_flag_name, status_name, configuration_kind_name, behaviour_name};
 ghost use Rattle.operation.specs.Rules.{is_bit, max_id, one_of, fd_length, can_length, remote_rule, error_codes, error_flags, behaviours, setting_rule, legal};
 
 // Largest IDs of 11 and 29 bits.
@@ -11,44 +13,266 @@ pub const MAX_STANDARD_ID: u32 = 2047;
 
 pub const MAX_EXTENDED_ID: u32 = 536870911;
 
+// A number that the table of its field does not have.
+#[derive(Clone, Copy, Debug, PartialEq, Eq)]
+pub struct NotInTable;
+
+// The kind of an operation, as its first four bytes say it.
+#[derive(Clone, Copy, Debug, PartialEq, Eq)]
+pub enum Code {
+    FormatError = 0x01,
+    CanTransmit = 0x10,
+    FdTransmit = 0x11,
+    XlTransmit = 0x12,
+    Confirm = 0x20,
+    ArbitrationLost = 0x30,
+    BusError = 0x31,
+    Configuration = 0x40,
+    Status = 0x41,
+    Wakeup = 0x42,
+}
+
+impl TryFrom<u32> for Code {
+    type Error = NotInTable;
+
+    ghost try_from_gives = { λ x r. r ≡ code_from x };
+
+    fn try_from(x: u32) -> Result<Code, NotInTable> {
+        match x {
+            0x01 => Ok(Code::FormatError),
+            0x10 => Ok(Code::CanTransmit),
+            0x11 => Ok(Code::FdTransmit),
+            0x12 => Ok(Code::XlTransmit),
+            0x20 => Ok(Code::Confirm),
+            0x30 => Ok(Code::ArbitrationLost),
+            0x31 => Ok(Code::BusError),
+            0x40 => Ok(Code::Configuration),
+            0x41 => Ok(Code::Status),
+            0x42 => Ok(Code::Wakeup),
+            _ => Err(NotInTable),
+        }
+    }
+}
+
 // Error Code of a Bus Error.
-pub const BIT_ERROR: u8 = 1;
+#[derive(Clone, Copy, Debug, PartialEq, Eq)]
+pub enum ErrorCode {
+    BitError = 1,
+    BitStuffingError = 2,
+    FormError = 3,
+    CrcError = 4,
+    AckError = 5,
+    BrokenErrorFrame = 6,
+}
 
-pub const BIT_STUFFING_ERROR: u8 = 2;
+impl TryFrom<u32> for ErrorCode {
+    type Error = NotInTable;
 
-pub const FORM_ERROR: u8 = 3;
+    ghost try_from_gives = { λ x r. r ≡ error_code_from x };
 
-pub const CRC_ERROR: u8 = 4;
+    fn try_from(x: u32) -> Result<ErrorCode, NotInTable> {
+        match x {
+            1 => Ok(ErrorCode::BitError),
+            2 => Ok(ErrorCode::BitStuffingError),
+            3 => Ok(ErrorCode::FormError),
+            4 => Ok(ErrorCode::CrcError),
+            5 => Ok(ErrorCode::AckError),
+            6 => Ok(ErrorCode::BrokenErrorFrame),
+            _ => Err(NotInTable),
+        }
+    }
+}
 
-pub const ACK_ERROR: u8 = 5;
-
-pub const BROKEN_ERROR_FRAME: u8 = 6;
+impl ErrorCode {
+    pub fn name(self) -> &'static str
+        ensures { result.now ≡ error_code_name self }
+    {
+        match self {
+            ErrorCode::BitError => "BIT_ERROR",
+            ErrorCode::BitStuffingError => "BIT_STUFFING_ERROR",
+            ErrorCode::FormError => "FORM_ERROR",
+            ErrorCode::CrcError => "CRC_ERROR",
+            ErrorCode::AckError => "ACK_ERROR",
+            ErrorCode::BrokenErrorFrame => "BROKEN_ERROR_FRAME",
+        }
+    }
+}
 
 // Error Flag of a Bus Error.
-pub const PRIMARY_ERROR_FLAG: u8 = 1;
+#[derive(Clone, Copy, Debug, PartialEq, Eq)]
+pub enum ErrorFlag {
+    Primary = 1,
+    Secondary = 2,
+}
 
-pub const SECONDARY_ERROR_FLAG: u8 = 2;
+impl TryFrom<u8> for ErrorFlag {
+    type Error = NotInTable;
+
+    ghost try_from_gives = { λ x r. r ≡ error_flag_from x };
+
+    fn try_from(x: u8) -> Result<ErrorFlag, NotInTable> {
+        match x {
+            1 => Ok(ErrorFlag::Primary),
+            2 => Ok(ErrorFlag::Secondary),
+            _ => Err(NotInTable),
+        }
+    }
+}
+
+impl ErrorFlag {
+    pub fn name(self) -> &'static str
+        ensures { result.now ≡ error_flag_name self }
+    {
+        match self {
+            ErrorFlag::Primary => "PRIMARY_ERROR_FLAG",
+            ErrorFlag::Secondary => "SECONDARY_ERROR_FLAG",
+        }
+    }
+}
 
 // Status.
-pub const ERROR_ACTIVE: u8 = 1;
+#[derive(Clone, Copy, Debug, PartialEq, Eq)]
+pub enum NodeStatus {
+    ErrorActive = 1,
+    ErrorPassive = 2,
+    BusOff = 3,
+}
 
-pub const ERROR_PASSIVE: u8 = 2;
+impl TryFrom<u8> for NodeStatus {
+    type Error = NotInTable;
 
-pub const BUS_OFF: u8 = 3;
+    ghost try_from_gives = { λ x r. r ≡ status_from x };
+
+    fn try_from(x: u8) -> Result<NodeStatus, NotInTable> {
+        match x {
+            1 => Ok(NodeStatus::ErrorActive),
+            2 => Ok(NodeStatus::ErrorPassive),
+            3 => Ok(NodeStatus::BusOff),
+            _ => Err(NotInTable),
+        }
+    }
+}
+
+impl NodeStatus {
+    pub fn name(self) -> &'static str
+        ensures { result.now ≡ status_name self }
+    {
+        match self {
+            NodeStatus::ErrorActive => "ERROR_ACTIVE",
+            NodeStatus::ErrorPassive => "ERROR_PASSIVE",
+            NodeStatus::BusOff => "BUS_OFF",
+        }
+    }
+}
 
 // Kind of a Configuration. The first three carry a baud rate, the last a behaviour.
-pub const CAN_BAUDRATE: u8 = 1;
+#[derive(Clone, Copy, Debug, PartialEq, Eq)]
+pub enum ConfigurationKind {
+    CanBaudrate = 1,
+    CanFdBaudrate = 2,
+    CanXlBaudrate = 3,
+    ArbitrationLostBehavior = 4,
+}
 
-pub const CAN_FD_BAUDRATE: u8 = 2;
+impl TryFrom<u8> for ConfigurationKind {
+    type Error = NotInTable;
 
-pub const CAN_XL_BAUDRATE: u8 = 3;
+    ghost try_from_gives = { λ x r. r ≡ configuration_kind_from x };
 
-pub const ARBITRATION_LOST_BEHAVIOR: u8 = 4;
+    fn try_from(x: u8) -> Result<ConfigurationKind, NotInTable> {
+        match x {
+            1 => Ok(ConfigurationKind::CanBaudrate),
+            2 => Ok(ConfigurationKind::CanFdBaudrate),
+            3 => Ok(ConfigurationKind::CanXlBaudrate),
+            4 => Ok(ConfigurationKind::ArbitrationLostBehavior),
+            _ => Err(NotInTable),
+        }
+    }
+}
+
+impl ConfigurationKind {
+    pub fn name(self) -> &'static str
+        ensures { result.now ≡ configuration_kind_name self }
+    {
+        match self {
+            ConfigurationKind::CanBaudrate => "CAN_BAUDRATE",
+            ConfigurationKind::CanFdBaudrate => "CAN_FD_BAUDRATE",
+            ConfigurationKind::CanXlBaudrate => "CAN_XL_BAUDRATE",
+            ConfigurationKind::ArbitrationLostBehavior => "ARBITRATION_LOST_BEHAVIOR",
+        }
+    }
+}
 
 // Arbitration Lost Behavior.
-pub const BUFFER_AND_RETRANSMIT: u32 = 1;
+#[derive(Clone, Copy, Debug, PartialEq, Eq)]
+pub enum LostBehavior {
+    BufferAndRetransmit = 1,
+    DiscardAndNotify = 2,
+}
 
-pub const DISCARD_AND_NOTIFY: u32 = 2;
+impl TryFrom<u32> for LostBehavior {
+    type Error = NotInTable;
+
+    ghost try_from_gives = { λ x r. r ≡ behaviour_from x };
+
+    fn try_from(x: u32) -> Result<LostBehavior, NotInTable> {
+        match x {
+            1 => Ok(LostBehavior::BufferAndRetransmit),
+            2 => Ok(LostBehavior::DiscardAndNotify),
+            _ => Err(NotInTable),
+        }
+    }
+}
+
+impl LostBehavior {
+    pub fn name(self) -> &'static str
+        ensures { result.now ≡ behaviour_name self }
+    {
+        match self {
+            LostBehavior::BufferAndRetransmit => "BUFFER_AND_RETRANSMIT",
+            LostBehavior::DiscardAndNotify => "DISCARD_AND_NOTIFY",
+        }
+    }
+}
+
+// Error Code of a Bus Error.
+pub const BIT_ERROR: u8 = ErrorCode::BitError as u8;
+
+pub const BIT_STUFFING_ERROR: u8 = ErrorCode::BitStuffingError as u8;
+
+pub const FORM_ERROR: u8 = ErrorCode::FormError as u8;
+
+pub const CRC_ERROR: u8 = ErrorCode::CrcError as u8;
+
+pub const ACK_ERROR: u8 = ErrorCode::AckError as u8;
+
+pub const BROKEN_ERROR_FRAME: u8 = ErrorCode::BrokenErrorFrame as u8;
+
+// Error Flag of a Bus Error.
+pub const PRIMARY_ERROR_FLAG: u8 = ErrorFlag::Primary as u8;
+
+pub const SECONDARY_ERROR_FLAG: u8 = ErrorFlag::Secondary as u8;
+
+// Status.
+pub const ERROR_ACTIVE: u8 = NodeStatus::ErrorActive as u8;
+
+pub const ERROR_PASSIVE: u8 = NodeStatus::ErrorPassive as u8;
+
+pub const BUS_OFF: u8 = NodeStatus::BusOff as u8;
+
+// Kind of a Configuration. The first three carry a baud rate, the last a behaviour.
+pub const CAN_BAUDRATE: u8 = ConfigurationKind::CanBaudrate as u8;
+
+pub const CAN_FD_BAUDRATE: u8 = ConfigurationKind::CanFdBaudrate as u8;
+
+pub const CAN_XL_BAUDRATE: u8 = ConfigurationKind::CanXlBaudrate as u8;
+
+pub const ARBITRATION_LOST_BEHAVIOR: u8 = ConfigurationKind::ArbitrationLostBehavior as u8;
+
+// Arbitration Lost Behavior.
+pub const BUFFER_AND_RETRANSMIT: u32 = LostBehavior::BufferAndRetransmit as u32;
+
+pub const DISCARD_AND_NOTIFY: u32 = LostBehavior::DiscardAndNotify as u32;
 
 // Lengths: of operations without data, and of a Format Error but for the bytes that it answers.
 pub const CONFIRM_LENGTH: usize = 12;
@@ -116,39 +340,10 @@ pub fn data_length(op: Operation) -> u16
 {
     match op {
         Operation::FormatError { n } => n,
-        Operation::CanTransmit {
-            id: _,
-            ide: _,
-            rtr: _,
-            dl,
-        } => dl,
-        Operation::FdTransmit {
-            id: _,
-            ide: _,
-            brs: _,
-            esi: _,
-            dl,
-        } => dl,
-        Operation::XlTransmit {
-            id: _,
-            ide: _,
-            sec: _,
-            sdt: _,
-            vcid: _,
-            af: _,
-            dl,
-        } => dl,
-        Operation::Confirm { id: _ } => 0,
-        Operation::ArbitrationLost { id: _ } => 0,
-        Operation::BusError {
-            id: _,
-            error_code: _,
-            error_flag: _,
-            is_sender: _,
-        } => 0,
-        Operation::Configuration { kind: _, value: _ } => 0,
-        Operation::Status { status: _ } => 0,
-        Operation::Wakeup => 0,
+        Operation::CanTransmit { dl, .. }
+        | Operation::FdTransmit { dl, .. }
+        | Operation::XlTransmit { dl, .. } => dl,
+        _ => 0,
     }
 }
 
@@ -156,7 +351,7 @@ pub fn data_length(op: Operation) -> u16
 pub fn configuration_length(kind: u8) -> usize
     ensures { (result ≡ configuration_length kind) × (result ≤ 13) }
 {
-    if kind == ARBITRATION_LOST_BEHAVIOR {
+    if kind == ConfigurationKind::ArbitrationLostBehavior as u8 {
         10
     } else {
         13
@@ -168,39 +363,15 @@ pub fn head_length(op: Operation) -> usize
     ensures { (result ≡ head_length op) × (result ≤ 22) }
 {
     match op {
-        Operation::FormatError { n: _ } => FORMAT_ERROR_HEAD,
-        Operation::CanTransmit {
-            id: _,
-            ide: _,
-            rtr: _,
-            dl: _,
-        } => 16,
-        Operation::FdTransmit {
-            id: _,
-            ide: _,
-            brs: _,
-            esi: _,
-            dl: _,
-        } => 17,
-        Operation::XlTransmit {
-            id: _,
-            ide: _,
-            sec: _,
-            sdt: _,
-            vcid: _,
-            af: _,
-            dl: _,
-        } => 22,
-        Operation::Confirm { id: _ } => CONFIRM_LENGTH,
-        Operation::ArbitrationLost { id: _ } => ARBITRATION_LOST_LENGTH,
-        Operation::BusError {
-            id: _,
-            error_code: _,
-            error_flag: _,
-            is_sender: _,
-        } => BUS_ERROR_LENGTH,
-        Operation::Configuration { kind, value: _ } => configuration_length(kind),
-        Operation::Status { status: _ } => 9,
+        Operation::FormatError { .. } => FORMAT_ERROR_HEAD,
+        Operation::CanTransmit { .. } => 16,
+        Operation::FdTransmit { .. } => 17,
+        Operation::XlTransmit { .. } => 22,
+        Operation::Confirm { .. } => CONFIRM_LENGTH,
+        Operation::ArbitrationLost { .. } => ARBITRATION_LOST_LENGTH,
+        Operation::BusError { .. } => BUS_ERROR_LENGTH,
+        Operation::Configuration { kind, .. } => configuration_length(kind),
+        Operation::Status { .. } => 9,
         Operation::Wakeup => WAKEUP_LENGTH,
     }
 }
@@ -222,17 +393,11 @@ fn max_id(ide: u8) -> u32
     }
 }
 
+#[tactic(auto, unfolding(crate::specs::Rules::one_of, crate::specs::Rules::fd_length))]
 fn is_fd_length(dl: u16) -> bool
     ensures { result ≡ fd_length dl }
 {
-    (dl <= 8)
-        | (dl == 12)
-        | (dl == 16)
-        | (dl == 20)
-        | (dl == 24)
-        | (dl == 32)
-        | (dl == 48)
-        | (dl == 64)
+    matches!(dl, 0..=8 | 12 | 16 | 20 | 24 | 32 | 48 | 64)
 }
 
 // Rtr is a bit, there are at most eight data bytes, and none with Rtr 1: by one comparison, since every call asks it of
@@ -244,31 +409,30 @@ fn is_can_length(rtr: u8, dl: u16) -> bool
 }
 
 // Of any number, for an injected error too.
+#[tactic(auto, using(crate::proofs::Tables::error_code_is_ok))]
 pub fn is_error_code(x: u32) -> bool
     ensures { result ≡ one_of x error_codes }
 {
-    (x == BIT_ERROR as u32)
-        | (x == BIT_STUFFING_ERROR as u32)
-        | (x == FORM_ERROR as u32)
-        | (x == CRC_ERROR as u32)
-        | (x == ACK_ERROR as u32)
-        | (x == BROKEN_ERROR_FRAME as u32)
+    ErrorCode::try_from(x).is_ok()
 }
 
+#[tactic(auto, using(crate::proofs::Tables::error_flag_is_ok))]
 fn is_error_flag(x: u8) -> bool
     ensures { result ≡ one_of x error_flags }
 {
-    (x == PRIMARY_ERROR_FLAG) | (x == SECONDARY_ERROR_FLAG)
+    ErrorFlag::try_from(x).is_ok()
 }
 
+#[tactic(auto, using(crate::proofs::Tables::behaviour_is_ok))]
 pub fn is_behaviour(x: u32) -> bool
     ensures { result ≡ one_of x behaviours }
 {
-    (x == BUFFER_AND_RETRANSMIT) | (x == DISCARD_AND_NOTIFY)
+    LostBehavior::try_from(x).is_ok()
 }
 
 // The content rules, a function a kind.
 
+#[tactic(auto, using(crate::proofs::Remote::can_legal))]
 pub fn can_is_legal(id: u32, ide: u8, rtr: u8, dl: u16) -> bool
     ensures { result ≡ legal (Operation.CanTransmit id ide rtr dl) }
 {
@@ -302,25 +466,20 @@ pub fn bus_error_is_legal(id: u32, code: u8, flag: u8, sender: u8) -> bool
     (id <= MAX_EXTENDED_ID) & is_error_code(code as u32) & is_error_flag(flag) & is_bit(sender)
 }
 
-// What a Configuration carries: a behaviour, or a baud rate that is not 0.
-fn is_setting(kind: u8, value: u32) -> bool
-    ensures { result ≡ setting_rule kind value }
-{
-    if kind == ARBITRATION_LOST_BEHAVIOR {
-        is_behaviour(value)
-    } else {
-        1 <= value
-    }
-}
-
+#[tactic(auto, using(crate::proofs::Tables::configuration_legal, std::proofs::lemmas::Bool::Decides::nat_tests))]
 pub fn configuration_is_legal(kind: u8, value: u32) -> bool
     ensures { result ≡ legal (Operation.Configuration kind value) }
 {
-    (CAN_BAUDRATE <= kind) & (kind <= ARBITRATION_LOST_BEHAVIOR) & is_setting(kind, value)
+    match ConfigurationKind::try_from(kind) {
+        Ok(ConfigurationKind::ArbitrationLostBehavior) => is_behaviour(value),
+        Ok(_) => 1 <= value,
+        Err(_) => false,
+    }
 }
 
+#[tactic(auto, using(crate::proofs::Tables::status_legal))]
 pub fn status_is_legal(status: u8) -> bool
     ensures { result ≡ legal (Operation.Status status) }
 {
-    (status == ERROR_ACTIVE) | (status == ERROR_PASSIVE) | (status == BUS_OFF)
+    NodeStatus::try_from(status).is_ok()
 }

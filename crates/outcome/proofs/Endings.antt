@@ -9,7 +9,7 @@ use Rattle.bus_state.specs.Memory.{held}
 use Rattle.bus_state.specs.declared.State.{State}
 use Rattle.outcome.specs.Ended.{ended_by}
 use Rattle.slots.specs.Blocks.{block_at}
-use Rattle.outcome.specs.declared.Outcome.{Outcome}
+use Rattle.outcome.specs.Outcome.{Outcome}
 
 -- four slots that are there, laid again
 pub block-kept-ends : (o : Outcome) (s : State) (a : List Slot) (at : ℕ) (p q : List ℕ) {four : List Slot} → four ≡ block_at a at

@@ -1,18 +1,17 @@
 -- Contract. What a result of the model comes to: its outcome, and the memory after it.
 -- Assumes nothing.
-use Rattle.std.specs.Prelude.{ℕ, List}
+use Rattle.std.specs.Prelude.{ℕ, List, Err}
 use Rattle.slots.specs.Blocks.{set_block}
 use Rattle.slots.specs.declared.Slot.{Slot}
 use Rattle.bus_state.specs.Memory.{Memory, held}
 use Rattle.bus_model.specs.Calls.{Reply, wrong_memory, answers, Result}
-use Rattle.outcome.specs.Outcome.{outcome_of}
-use Rattle.outcome.specs.declared.Outcome.{Outcome}
-use Rattle.outcome.specs.declared.Outcome.TheVariants.{WrongMemory}
+use Rattle.outcome.specs.Outcome.{Outcome, outcome_of}
+use Rattle.outcome.specs.declared.Refusal.TheVariants.{WrongMemory}
 use Rattle.outcome.specs.declared.Change.{Change}
 
 -- the case of a reply
 abbrev pub outcome_is : Reply → Outcome
-outcome_is wrong_memory = WrongMemory
+outcome_is wrong_memory = Err WrongMemory
 outcome_is (answers a) = outcome_of a
 
 -- an outcome with the memory after it

@@ -1,25 +1,40 @@
-// What a call of the bus comes to: an outcome beside the state, and from it the answer with the number and the values of 01.
+// What a call of the bus comes to: how it was done or why it was refused, beside the state, and from it the answer with the number and
+// the values of 01.
 #![tactic(auto)]
 
 ghost use Rattle.std.specs.Prelude.{◌≡◌};
-ghost use Rattle.outcome.specs.Outcome.{answer_of, answer_row};
+ghost use Rattle.outcome.specs.Outcome.{refusal_number, answer_of};
 
 use bus_state::State;
 use slots::Slot;
 
-// One case for each refusal of the table, and one for each way to be done.
-#[derive(Clone, Copy)]
-pub enum Outcome {
-    WrongMemory,
-    BadNodeCount,
-    Invalid,
-    NotAttached,
-    BufferTooLong,
-    BadInjection,
-    FourPending,
-    QueueFull,
-    RoundsUsedUp,
-    RoomTooSmall,
+// The refusals of the bus, with their numbers.
+#[derive(Clone, Copy, Debug, PartialEq, Eq)]
+pub enum Refusal {
+    WrongMemory = 1,
+    BadNodeCount = 2,
+    Invalid = 3,
+    NotAttached = 4,
+    BufferTooLong = 5,
+    BadInjection = 6,
+    FourPending = 8,
+    QueueFull = 9,
+    RoundsUsedUp = 10,
+    RoomTooSmall = 11,
+}
+
+impl Refusal {
+    // The number of 01.
+    pub fn number(self) -> u32
+        ensures { result ≡ refusal_number self }
+    {
+        self as u32
+    }
+}
+
+// The ways in which a call is done.
+#[derive(Clone, Copy, Debug, PartialEq, Eq)]
+pub enum Done {
     Accepted,
     Idle,
     Carried {
@@ -30,6 +45,8 @@ pub enum Outcome {
     },
     Collected(u16),
 }
+
+pub type Outcome = Result<Done, Refusal>;
 
 // An outcome with the state after it, and the four slots, from a position on, that are all it changes among the slots.
 #[derive(Clone, Copy)]
@@ -58,49 +75,40 @@ pub struct Answer {
 pub fn answer_of(outcome: Outcome, state: State) -> Answer
     ensures { result ≡ answer_of outcome state }
 {
-    match outcome {
-        Outcome::WrongMemory => row(1, 0, 0, 0, 0, 0, 0, state),
-        Outcome::BadNodeCount => row(2, 0, 0, 0, 0, 0, 0, state),
-        Outcome::Invalid => row(3, 0, 0, 0, 0, 0, 0, state),
-        Outcome::NotAttached => row(4, 0, 0, 0, 0, 0, 0, state),
-        Outcome::BufferTooLong => row(5, 0, 0, 0, 0, 0, 0, state),
-        Outcome::BadInjection => row(6, 0, 0, 0, 0, 0, 0, state),
-        Outcome::FourPending => row(8, 0, 0, 0, 0, 0, 0, state),
-        Outcome::QueueFull => row(9, 0, 0, 0, 0, 0, 0, state),
-        Outcome::RoundsUsedUp => row(10, 0, 0, 0, 0, 0, 0, state),
-        Outcome::RoomTooSmall => row(11, 0, 0, 0, 0, 0, 0, state),
-        Outcome::Accepted => row(0, 0, 0, 0, 0, 0, 0, state),
-        Outcome::Idle => row(0, 0, 0, 0, 0, 1, 0, state),
-        Outcome::Carried {
-            sender,
-            id,
-            errored,
-            age,
-        } => row(0, id, age, 0, sender, 0, errored as u8, state),
-        Outcome::Collected(length) => row(0, 0, 0, length, 0, 0, 0, state),
-    }
-}
-
-fn row(
-    number: u32,
-    id: u32,
-    age: u32,
-    length: u16,
-    sender: u8,
-    idle: u8,
-    errored: u8,
-    state: State,
-) -> Answer
-    ensures { result ≡ answer_row number id age length sender idle errored state }
-{
-    Answer {
-        number,
-        id,
-        age,
-        length,
-        sender,
-        idle,
-        errored,
+    let accepted = Answer {
+        number: 0,
+        id: 0,
+        age: 0,
+        length: 0,
+        sender: 0,
+        idle: 0,
+        errored: 0,
         state,
+    };
+    match outcome {
+        Err(refusal) => Answer {
+            number: refusal.number(),
+            ..accepted
+        },
+        Ok(Done::Accepted) => accepted,
+        Ok(Done::Idle) => Answer {
+            idle: 1,
+            ..accepted
+        },
+        Ok(
+            Done::Carried {
+                sender,
+                id,
+                errored,
+                age,
+            },
+        ) => Answer {
+            id,
+            age,
+            sender,
+            errored: errored as u8,
+            ..accepted
+        },
+        Ok(Done::Collected(length)) => Answer { length, ..accepted },
     }
 }

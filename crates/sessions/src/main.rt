@@ -60,7 +60,7 @@ fn write_queue(out: Stdout, k: Kept, payload: &[u8], queues: &[u8], node: u32) -
     let answer = owned_slots::collect(k.state, slots, payload, queues, node, &mut buffer);
     let n = answer.length as usize;
     if n <= 4096 {
-        Line::new(out).hex(&buffer[..n]).end();
+        Line::new(out).hex_bytes(&buffer[..n]).end();
     }
     let state = answer.state;
     Kept { state, slots }

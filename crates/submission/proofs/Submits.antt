@@ -14,7 +14,9 @@ use Rattle.bus_state.specs.Memory.{Memory, held, slots_per_node}
 use Rattle.bus_state.specs.declared.State.{State}
 use Rattle.bus_model.specs.Calls.{taken_in, submitted}
 use Rattle.outcome.specs.Ended.{ended}
-use Rattle.outcome.specs.declared.Outcome.TheVariants.{NotAttached, BufferTooLong, FourPending, QueueFull, Accepted}
+use Rattle.outcome.specs.declared.Refusal.TheVariants.{NotAttached, BufferTooLong, FourPending, QueueFull}
+use Rattle.outcome.specs.declared.Done.TheVariants.{Accepted}
+use Rattle.std.specs.Prelude.{Ok, Err}
 use Rattle.submission.specs.Counting.{check_items}
 use Rattle.submission.specs.Carrying.{memory_after_all, first_slot}
 use Rattle.submission.specs.declared.Verdict.TheVariants as verdict
@@ -41,24 +43,24 @@ module _ (s : State) (a : List Slot) (p q : List ℕ) (k : ℕ) (buffer : List �
   -- a refusal leaves the slots that were there
   module _ (at : ℕ) {four : List Slot} (e : block_at a at ≡ four) where
     pub not-attached : s.count ≤ k
-        → record { outcome = NotAttached; memory = held s (set_block a at four) p q } ≡ ended (submitted (held s a p q) k buffer)
+        → record { outcome = Err NotAttached; memory = held s (set_block a at four) p q } ≡ ended (submitted (held s a p q) k buffer)
     unfolding submitted
     not-attached h = rw (le-ltb k s.count h, laid_again a at e)
 
     pub too_long : k < s.count → max_submit < length buffer
-        → record { outcome = BufferTooLong; memory = held s (set_block a at four) p q } ≡ ended (submitted (held s a p q) k buffer)
+        → record { outcome = Err BufferTooLong; memory = held s (set_block a at four) p q } ≡ ended (submitted (held s a p q) k buffer)
     unfolding submitted
     too_long h l = rw (lt-ltb k s.count h, lt-ltb max_submit (length buffer) l, laid_again a at e)
 
     pub four-pending : k < s.count → length buffer ≤ max_submit → check_items k (items_of buffer) s ≡ verdict.FourPending
-        → record { outcome = FourPending; memory = held s (set_block a at four) p q } ≡ ended (submitted (held s a p q) k buffer)
+        → record { outcome = Err FourPending; memory = held s (set_block a at four) p q } ≡ ended (submitted (held s a p q) k buffer)
     four-pending h l v = rw (decided h l, v, laid_again a at e)
 
     pub queue-full : k < s.count → length buffer ≤ max_submit → check_items k (items_of buffer) s ≡ verdict.QueueFull
-        → record { outcome = QueueFull; memory = held s (set_block a at four) p q } ≡ ended (submitted (held s a p q) k buffer)
+        → record { outcome = Err QueueFull; memory = held s (set_block a at four) p q } ≡ ended (submitted (held s a p q) k buffer)
     queue-full h l v = rw (decided h l, v, laid_again a at e)
 
   pub all-taken : {m : Memory} → k < s.count → length buffer ≤ max_submit → check_items k (items_of buffer) s ≡ verdict.Goes
       → m ≡ memory_after_all k (items_of buffer) (held s a p q)
-      → record { outcome = Accepted; memory = m } ≡ ended (submitted (held s a p q) k buffer)
+      → record { outcome = Ok Accepted; memory = m } ≡ ended (submitted (held s a p q) k buffer)
   all-taken h l v e = rw (decided h l, v, e)

@@ -2,7 +2,7 @@
 // touched no lent byte. This is for the bus crate above: what is required its caller must meet.
 #![tactic(auto)]
 
-ghost use Rattle.std.specs.Prelude.{◌≡◌, true, List, [], ◌+◌, ◌*◌, ◌≤◌, ◌<◌, length};
+ghost use Rattle.std.specs.Prelude.{◌≡◌, true, List, [], ◌+◌, ◌*◌, ◌≤◌, ◌<◌, length, Ok};
 ghost use Rattle.operation.specs.Rules.{legal};
 ghost use Rattle.operation.specs.Format.{length_of, encode};
 ghost use Rattle.buffers.specs.Parts.{over};
@@ -22,7 +22,7 @@ ghost use Rattle.submission.specs.Carrying.{memory_after_all, queue_with, wakeup
 use bus_state::{NodeState, State};
 use decoder::{Cursor, Reading};
 use operation::Operation;
-use outcome::{Change, Outcome};
+use outcome::{Change, Done, Refusal};
 use slots::Slot;
 
 // What an item of a buffer does.
@@ -443,7 +443,7 @@ fn carry_buffer(
     requires value { (entry ≡ node_state s k) × (entry.fill ≤ bytes_per_queue) }
     requires payload_len { (length payload.old ≡ payload_bytes) × (length queues.old ≡ queue_bytes) }
     requires s_value { check_items k (items_of buffer.now) s ≡ Verdict.Goes }
-    ensures outcome { (result.outcome ≡ Outcome.Accepted) × (result.at ≡ start) }
+    ensures outcome { (result.outcome ≡ Ok Done.Accepted) × (result.at ≡ start) }
     ensures memory { (slots : List Slot) → held result.state (set_block slots (slots_per_node * k) result.block) payload.new queues.new ≡ memory_after_all k (items_of buffer.now) (held s (set_block slots (slots_per_node * k) four) payload.old queues.old) }
 {
     let mut first = four[0];
@@ -457,7 +457,7 @@ fn carry_buffer(
         match step_at(buffer, at) {
             Next::End => {
                 return Change {
-                    outcome: Outcome::Accepted,
+                    outcome: Ok(Done::Accepted),
                     state: state_left(s, k, wakeups, d),
                     at: start,
                     block: [first, second, third, fourth],
@@ -539,7 +539,7 @@ pub fn submit(
     let at = first_slot(node);
     if s.count <= node {
         return Change {
-            outcome: Outcome::NotAttached,
+            outcome: Err(Refusal::NotAttached),
             state: s,
             at,
             block: four,
@@ -547,7 +547,7 @@ pub fn submit(
     }
     if LONGEST_BUFFER < buffer.len() {
         return Change {
-            outcome: Outcome::BufferTooLong,
+            outcome: Err(Refusal::BufferTooLong),
             state: s,
             at,
             block: four,
@@ -557,13 +557,13 @@ pub fn submit(
     let d = bus_state::entry(s, k);
     match check_buffer(s, k, d, buffer) {
         Verdict::FourPending => Change {
-            outcome: Outcome::FourPending,
+            outcome: Err(Refusal::FourPending),
             state: s,
             at,
             block: four,
         },
         Verdict::QueueFull => Change {
-            outcome: Outcome::QueueFull,
+            outcome: Err(Refusal::QueueFull),
             state: s,
             at,
             block: four,

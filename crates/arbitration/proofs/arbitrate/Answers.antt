@@ -7,7 +7,8 @@ use Rattle.scan.specs.Winner.{held_at}
 use Rattle.operation.proofs.Sizes.{head_small}
 use Rattle.operation.specs.Format.{length_of}
 use Rattle.outcome.proofs.Endings.{block-kept-ends}
-use Rattle.outcome.specs.declared.Outcome.TheVariants.{QueueFull, RoundsUsedUp}
+use Rattle.std.specs.Prelude.{Err}
+use Rattle.outcome.specs.declared.Refusal.TheVariants.{QueueFull, RoundsUsedUp}
 use mathlib.Core.Path.{◌≡◌, refl, sym, ◌∙◌}
 use native.Mathlib.Omega.{arith}
 use Rattle.arbitration.proofs.arbitrate.Goals as goal
@@ -43,7 +44,7 @@ returns-then-not-has_room c =
     let q = rw x at (sym c.has_room.ensures ∙ c.if-not-has_room.true) in
     record {
       queues_after =
-          λ l d. block-kept-ends QueueFull a.s l (4 * a.owner) a.payload.now a.queues.now d.drawn.block
+          λ l d. block-kept-ends (Err QueueFull) a.s l (4 * a.owner) a.payload.now a.queues.now d.drawn.block
           ∙ full-ended a.s l a.payload.now a.queues.now a.e a.owner a.position a.four a.ids eight c.requires.payload_len d q;
       at_value = refl;
     }
@@ -60,7 +61,7 @@ returns-then-s-ge-LAST_ROUND c =
     let q = rw x at (sym c.has_room.ensures ∙ c.if-not-has_room.false) in
     record {
       queues_after =
-          λ l d. block-kept-ends RoundsUsedUp a.s l (4 * a.owner) a.payload.now a.queues.now d.drawn.block
+          λ l d. block-kept-ends (Err RoundsUsedUp) a.s l (4 * a.owner) a.payload.now a.queues.now d.drawn.block
           ∙ used_up_ended a.s l a.payload.now a.queues.now a.e a.owner a.position a.four a.ids eight c.requires.payload_len d q
           c.if-s-ge-LAST_ROUND.true;
       at_value = refl;

@@ -9,7 +9,9 @@ use mathlib.Core.Bool.{true, false}
 use Rattle.std.proofs.lemmas.Grind.{common_steps}
 use Rattle.scan.specs.Winner.{owner_of}
 use Rattle.outcome.proofs.Endings.{block-kept-ends}
-use Rattle.outcome.specs.declared.Outcome.TheVariants.{BadInjection, Idle}
+use Rattle.std.specs.Prelude.{Ok, Err}
+use Rattle.outcome.specs.declared.Refusal.TheVariants.{BadInjection}
+use Rattle.outcome.specs.declared.Done.TheVariants.{Idle}
 use mathlib.Core.Path.{◌≡◌, sym, ◌∙◌}
 use native.Mathlib.Omega.{arith}
 use Rattle.arbitration.proofs.round.Goals as goal
@@ -27,7 +29,7 @@ returns-then-is_wrong c =
     let q : is_wrong a.s a.e ≡ true = grind (arith, common_steps) in
     record {
       queues_after =
-          λ l d. block-kept-ends BadInjection a.s l f.result a.payload.now a.queues.now (rw f.ensures d.block)
+          λ l d. block-kept-ends (Err BadInjection) a.s l f.result a.payload.now a.queues.now (rw f.ensures d.block)
           ∙ wrong_ended a.s l a.payload.now a.queues.now a.e q;
       at_value = f.ensures;
       slots_per_node_bound = omega (arith, f.ensures, owner_small c.requires.drawn.1);
@@ -50,7 +52,7 @@ returns-in-Nobody c =
     let q : is_wrong a.s a.e ≡ false = grind (arith, common_steps) in
     record {
       queues_after =
-          λ l d. block-kept-ends Idle a.s l f.result a.payload.now a.queues.now (rw f.ensures d.block)
+          λ l d. block-kept-ends (Ok Idle) a.s l f.result a.payload.now a.queues.now (rw f.ensures d.block)
           ∙ idle_ended a.s l a.payload.now a.queues.now a.e q (sym d.first ∙ c.in-Nobody.is);
       at_value = f.ensures;
       slots_per_node_bound = omega (arith, f.ensures, owner_small c.requires.drawn.1);

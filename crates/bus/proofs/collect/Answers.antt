@@ -28,14 +28,14 @@ module _ {s : State} {slots key : ℕ} {P Q : List Slot → Type 0} where
       → ((a : List Slot) → Counted s slots key a → P a) × ((a : List Slot) → Counted s slots key a → Q a)
   each f = (λ a h. (f a h).0, λ a h. (f a h).1)
 
-pub returns-in-Refused : goal.returns-in-Refused
+pub returns-in-Err : goal.returns-in-Err
 unfolding collect_in
-returns-in-Refused c =
+returns-in-Err c =
     let g = c.args in
     let p = g.payload.now in
     let q = g.queues.now in
     let b = g.buffer.now in
-    let told = sym c.test_lent.ensures ∙ c.in-Refused.is in
+    let told = sym c.test_lent.ensures ∙ c.in-Err.is in
     let r = each (λ a h.
     let m = held g.s a p q in
     let r = collection m g.node (length b) in (

@@ -11,9 +11,9 @@ use mathlib.Core.Path.{sym, ap, ◌∙◌}
 use native.Mathlib.Omega.{arith}
 use Rattle.bus.proofs.round.Goals as goal
 
-pub returns-in-Refused : goal.returns-in-Refused
+pub returns-in-Err : goal.returns-in-Err
 unfolding round_in
-returns-in-Refused c =
+returns-in-Err c =
     let g = c.args in record {
       ended = λ a h.
           let m = held g.s a g.payload.now g.queues.now in
@@ -21,7 +21,7 @@ returns-in-Refused c =
           c.winner_block-at.ensures.0))
           ∙ sym (refused-ends (counted h.scan) g.payload.now g.queues.now (rounded m (injection_from g.injected g.code
           g.detector))
-          _ (sym c.test_lent.ensures ∙ c.in-Refused.is));
+          _ (sym c.test_lent.ensures ∙ c.in-Err.is));
       inside = c.winner_block-at.ensures.1;
     }
 

@@ -9,15 +9,15 @@ use Rattle.outcome.specs.Ended.{ended}
 use mathlib.Core.Path.{sym, ap, ◌∙◌}
 use Rattle.bus.proofs.submit.Goals as goal
 
-pub returns-in-Refused : goal.returns-in-Refused
+pub returns-in-Err : goal.returns-in-Err
 unfolding submit_in
-returns-in-Refused c =
+returns-in-Err c =
     let g = c.args in record {
       ended = λ a h b.
           let m = held g.s a g.payload.now g.queues.now in
           block-kept-ends _ g.s a _ g.payload.now g.queues.now (sym b ∙ ap (block_at a) (sym c.first_slot-at.ensures.0))
           ∙ sym (refused-ends (counted h) g.payload.now g.queues.now (submitted m g.node g.buffer.now) _
-          (sym c.test_lent.ensures ∙ c.in-Refused.is));
+          (sym c.test_lent.ensures ∙ c.in-Err.is));
       inside = c.first_slot-at.ensures.1;
     }
 

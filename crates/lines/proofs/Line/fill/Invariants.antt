@@ -1,11 +1,7 @@
--- The line has gained the blanks up to i, and those from i on are left.
-use Rattle.std.proofs.Common.{◌+◌, ◌-◌, ◌≡◌, ◌≤◌}
-use Rattle.lines.specs.Text.{Gains, blanks}
+-- The line has gained a blank a turn.
+use Rattle.std.proofs.Common.{◌≡◌}
+use Rattle.lines.specs.Text.{after_all, blanks}
 use Rattle.lines.proofs.Line.fill.Given as goal
 
-abbrev pub invariant-loop-i : goal.invariant-loop-i
-invariant-loop-i l =
-    (l.from ≤ l.i) × (l.i - l.from + (l.to - l.i) ≡ l.to - l.from) × Gains l.fn.self l.line (blanks (l.i - l.from))
-
-abbrev pub decreases-loop-i : goal.decreases-loop-i
-decreases-loop-i l = l.to - l.i
+abbrev pub invariant-loop : goal.invariant-loop
+invariant-loop l = l.self ≡ after_all l.fn.self (blanks l.counter)

@@ -1,10 +1,7 @@
--- The line has gained the first i bytes.
-use Rattle.std.proofs.Common.{◌-◌, ◌≤◌, length, take}
-use Rattle.lines.specs.Text.{Gains}
+-- The line has gained the bytes so far.
+use Rattle.std.proofs.Common.{◌≡◌, take}
+use Rattle.lines.specs.Text.{after_all}
 use Rattle.lines.proofs.Line.text.Given as goal
 
-abbrev pub invariant-loop-i : goal.invariant-loop-i
-invariant-loop-i l = (l.i ≤ length l.text) × Gains l.fn.self l.line (take l.i l.text)
-
-abbrev pub decreases-loop-i : goal.decreases-loop-i
-decreases-loop-i l = length l.text - l.i
+abbrev pub invariant-loop-byte : goal.invariant-loop-byte
+invariant-loop-byte g l = l.self ≡ after_all l.fn.self (take l.byte-index l.byte-items)

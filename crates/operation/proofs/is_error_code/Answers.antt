@@ -1,8 +1,0 @@
--- The tests, joined by or, are membership in the table.
-use Rattle.operation.specs.Rules.{one_of}
-use mathlib.Core.Bool.{or_assoc, or-false}
-use Rattle.operation.proofs.is_error_code.Goals as goal
-
-pub returns : goal.returns
-unfolding one_of
-returns c = simp (or_assoc, or-false)
