@@ -20,7 +20,11 @@ pub fn block_at(slots: &[Slot], at: usize) -> [Slot; 4]
 pub fn ids(slots: &[Slot; 32]) -> [u32; 32]
     ensures { result ≡ map (λ (x : Slot). x.id) slots.now }
 {
-    slots.map(|x| x.id)
+    let mut ids = [0; 32];
+    for p in 0..slots.len() {
+        ids[p] = slots[p].id;
+    }
+    ids
 }
 
 // Four slots into the lent ones, from a position on.
