@@ -34,6 +34,7 @@ FIXITY = re.compile(r"infix[lr]? \S+ (.*)")
 GOES_ON = re.compile(r"\s*(?:[)\]}{]|deriving\b)")
 ATTRIBUTE = re.compile(r"\s*#\[.*\]$")
 TACTIC = re.compile(r"\s*#!?\[tactic\b.*\]$")  # how the search goes about a proof
+MEMBER = re.compile(r"ghost (\w+)\s*[:=]")
 FUNCTION = re.compile(r"\bfn (\w+)")
 OF_SRC = re.compile(r"\b(?:struct|enum|const|static|type) (\w+)")
 CLAUSE = re.compile(r"\s(?:requires|ensures)\s")
@@ -209,10 +210,12 @@ def read_source(lines: List[str], path: str, found: Source) -> None:
         if BRINGS_IN.match(head) and text.endswith(";"):
             continue
         is_public = head.startswith("pub ")
-        if re.match(r"(?:pub )?(?:impl|mod)\b", head):
+        if re.match(r"(?:pub )?(?:impl|mod|trait)\b", head):
             read_source(item[1:-1], f"{path}{head.rstrip(' {').split()[-1]}::", found)
         elif OF_SRC.search(head.split("=")[0]) and not FUNCTION.search(head):
             found.declared[path + OF_SRC.findall(head)[0]] = words(text, ".rt")
+        elif path and MEMBER.match(head):
+            found.declared[path + MEMBER.findall(head)[0]] = words(text, ".rt")
         elif FUNCTION.search(head):
             begins = body_of(text)
             clause = CLAUSE.search(text, 0, begins)

@@ -3,6 +3,7 @@
 use mathlib.Core.Path.{◌≡◌, refl, ◌∙◌}
 use mathlib.Core.Bool.{Bool, true, false, cond}
 use mathlib.Core.List.{List, [], map}
+use Rattle.std.specs.Prelude.{Option, None, Some}
 use Prim.Native.Nat.{ℕ, zero, suc, ◌+◌, ◌*◌, ◌≤◌, ◌<◌}
 use native.Mathlib.Nat.{add-zero}
 use native.Mathlib.Omega.{arith}
@@ -28,7 +29,6 @@ use Rattle.bus_model.proofs.Views.{Fits}
 use Rattle.bus_model.proofs.Touched.{Tidy}
 use Rattle.bus_model.proofs.Settle.{owed-view}
 use Rattle.arbitration.specs.declared.Injection.{Injection}
-use Rattle.arbitration.specs.declared.Injection.TheVariants.{NoError, Injected}
 use Rattle.arbitration.specs.Injections.{injection_of}
 use Rattle.scan.specs.Winner.{held_at}
 use Rattle.arbitration.specs.Owed.{PendingAt, discards, discarded, news_to, notices_but, owed_to, owed_length, room_from}
@@ -94,16 +94,16 @@ notices_view m ids j owner position h few o named = go (discards (entry_at m j))
 
 -- ---- the news
 
-news_view : (e : Injection) (m : Memory) (j owner position : ℕ)
+news_view : (e : Option Injection) (m : Memory) (j owner position : ℕ)
     → news_for (injection_of e) (pending_at m owner position) j (node_view m j)
     ≡ news_to e j owner (is_off (entry_at m j)) (held_at m.slots (4 * owner + position)) (data_at_slot m (4 * owner + position))
 unfolding news_for news_to node_view frame_at
-news_view NoError m j owner position = refl
-news_view (Injected code detector) m j owner position = refl
+news_view None m j owner position = refl
+news_view (Some i) m j owner position = refl
 
 -- ---- all of it, where the state is valid and the winner is pending
 
-module _ (s : State) (a : List Slot) (payload queues : List ℕ) (e : Injection) (owner position : ℕ)
+module _ (s : State) (a : List Slot) (payload queues : List ℕ) (e : Option Injection) (owner position : ℕ)
     (sized : Sized (held s a payload queues)) (v : valid_state s a ≡ true) (w : PendingAt s owner position)
     (ids : List ℕ) (named : ids ≡ map (λ (x : Slot). x.id) a) where
   abbrev m : Memory

@@ -4,6 +4,7 @@
 use mathlib.Core.Path.{◌≡◌, refl, sym, ap, ◌∙◌}
 use mathlib.Core.Bool.{Bool, true, false, cond}
 use mathlib.Core.List.{List, map}
+use Rattle.std.specs.Prelude.{Option}
 use Prim.Native.Nat.{ℕ, zero, suc, ◌+◌, ◌-◌, ◌*◌, ◌≤◌, ◌<◌}
 use native.Mathlib.Omega.{arith}
 use native.Mathlib.Nat.{sub-zero}
@@ -132,7 +133,7 @@ settle_step e w x j h =
 
 -- ---- all turns
 
-module _ (s : State) (a : List Slot) (payload queues : List ℕ) (e : Injection) (owner position : ℕ)
+module _ (s : State) (a : List Slot) (payload queues : List ℕ) (e : Option Injection) (owner position : ℕ)
     (sized : Sized (held s a payload queues)) (v : valid_state s a ≡ true) (w : PendingAt s owner position)
     (ids : List ℕ) (named : ids ≡ map (λ (x : Slot). x.id) a)
     (room : room_from e s.nodes owner (length_of (held_at a (4 * owner + position))) 0 s.count ≡ true) where

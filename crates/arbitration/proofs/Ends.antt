@@ -3,6 +3,7 @@
 use mathlib.Core.Path.{◌≡◌}
 use mathlib.Core.Bool.{Bool, true, false}
 use mathlib.Core.List.{List}
+use Rattle.std.specs.Prelude.{Option, None, Some}
 use Prim.Native.Nat.{ℕ, ◌+◌, ◌-◌, ◌*◌, ◌≤◌, ◌<◌}
 use lib.ListN.{length, get_or}
 use borrow.Author.Tests.{le-leb, lt-leb}
@@ -27,10 +28,10 @@ use Rattle.outcome.specs.declared.Refusal.TheVariants.{BadInjection, QueueFull, 
 use Rattle.outcome.specs.declared.Done.TheVariants.{Idle, Carried}
 use Rattle.std.specs.Prelude.{Ok, Err}
 use Rattle.arbitration.specs.declared.Injection.{Injection}
-use Rattle.scan.specs.declared.Winner.TheVariants.{Nobody, First}
 use Rattle.arbitration.specs.Injections.{injection_of, is_wrong}
+use Rattle.scan.specs.declared.Winner.{Winner}
 use Rattle.scan.specs.Winner.{held_at, best_in}
-use Rattle.arbitration.specs.Drawn.{DrawnAt}
+use Rattle.arbitration.specs.Drawn.{Drawn}
 use Rattle.arbitration.specs.Owed.{room_from}
 use Rattle.arbitration.specs.After.{state_after, queues_after, block_without, payload_without}
 use Rattle.arbitration.specs.Round.{carried_out}
@@ -46,7 +47,7 @@ kept o m = record { outcome = o; memory = m }
 
 -- ---- before the winner is known to have room
 
-module _ (s : State) (a : List Slot) (payload queues : List ℕ) (e : Injection) where
+module _ (s : State) (a : List Slot) (payload queues : List ℕ) (e : Option Injection) where
   abbrev memory : Memory
   memory = held s a payload queues
 
@@ -54,64 +55,64 @@ module _ (s : State) (a : List Slot) (payload queues : List ℕ) (e : Injection)
   unfolding rounded
   wrong_ended q = rw (wrong_is memory e, q)
 
-  pub idle_ended : is_wrong s e ≡ false → best_in s a ≡ Nobody → kept (Ok Idle) memory ≡ ended (rounded memory (injection_of e))
+  pub idle_ended : is_wrong s e ≡ false → best_in s a ≡ None → kept (Ok Idle) memory ≡ ended (rounded memory (injection_of e))
   unfolding rounded arbitrate_in
   idle_ended q n = rw (wrong_is memory e, q, nobody-wins memory n)
 
-  pub won-ended : {rank owner position : ℕ} → is_wrong s e ≡ false → best_in s a ≡ First rank owner position
-      → ended (arbitrate_in memory (injection_of e) (wins (pending_at memory owner position))) ≡ ended (rounded memory (injection_of e))
+  pub won-ended : {w : Winner} → is_wrong s e ≡ false → best_in s a ≡ Some w
+      → ended (arbitrate_in memory (injection_of e) (wins (pending_at memory w.owner w.position))) ≡ ended (rounded memory (injection_of e))
   unfolding rounded
   won-ended q f = rw (wrong_is memory e, q, (first-wins memory f).winner)
 
 -- ---- the winner is pending
 
-module _ (s : State) (a : List Slot) (payload queues : List ℕ) (e : Injection) (owner position : ℕ) (four : List Slot) (ids : List ℕ)
+module _ (s : State) (a : List Slot) (payload queues : List ℕ) (e : Option Injection) (w : Winner) (four : List Slot) (ids : List ℕ)
     (eight : length s.nodes ≡ 8) (lent : (length payload ≡ payload_bytes) × (length queues ≡ queue_bytes))
-    (d : DrawnAt s a owner position four ids) where
+    (d : Drawn s a (Some w) four ids) where
   abbrev m : Memory
   m = held s a payload queues
 
   sized : Sized m
-  sized = record { slots = d.drawn.slots; payload = lent.0; queues = lent.1; nodes = eight }
+  sized = record { slots = d.slots; payload = lent.0; queues = lent.1; nodes = eight }
 
   abbrev size : ℕ
-  size = length_of (held_at four position)
+  size = length_of (held_at four w.position)
 
   -- the room test is the model's
-  room : room_for_each (owed_at (injection_of e) (pending_at m owner position) m) m 0 s.count ≡ room_from e s.nodes owner size 0 s.count
-  room = rw (winner-slot d) (room_is s a payload queues e owner position sized d.drawn.valid (pending_at_lem d) ids d.drawn.named)
+  room : room_for_each (owed_at (injection_of e) (pending_at m w.owner w.position) m) m 0 s.count ≡ room_from e s.nodes w.owner size 0 s.count
+  room = rw (winner-slot d) (room_is s a payload queues e w.owner w.position sized d.valid (pending_at_lem d) ids d.named)
 
   abbrev answered : Ended
-  answered = ended (arbitrate_in m (injection_of e) (wins (pending_at m owner position)))
+  answered = ended (arbitrate_in m (injection_of e) (wins (pending_at m w.owner w.position)))
 
-  pub full-ended : room_from e s.nodes owner size 0 s.count ≡ false → kept (Err QueueFull) m ≡ answered
+  pub full-ended : room_from e s.nodes w.owner size 0 s.count ≡ false → kept (Err QueueFull) m ≡ answered
   unfolding arbitrate_in
   full-ended q = rw (room, q)
 
-  pub used_up_ended : room_from e s.nodes owner size 0 s.count ≡ true → 4_294_967_295 ≤ s.round → kept (Err RoundsUsedUp) m ≡ answered
+  pub used_up_ended : room_from e s.nodes w.owner size 0 s.count ≡ true → 4_294_967_295 ≤ s.round → kept (Err RoundsUsedUp) m ≡ answered
   unfolding arbitrate_in
   used_up_ended q l = rw (room, q, le-leb last_round s.round l)
 
-  pub carried-ended : room_from e s.nodes owner size 0 s.count ≡ true → s.round < 4_294_967_295
-      → ended (carried_out m (injection_of e) (pending_at m owner position)) ≡ answered
+  pub carried-ended : room_from e s.nodes w.owner size 0 s.count ≡ true → s.round < 4_294_967_295
+      → ended (carried_out m (injection_of e) (pending_at m w.owner w.position)) ≡ answered
   unfolding arbitrate_in
   carried-ended q l = rw (room, q, lt-leb last_round s.round l)
 
   -- what carries a round out comes to the model's answer and memory
   pub done-ended : {id : ℕ} {errored : Bool} {state : State} {block : List Slot} {payload' queues' : List ℕ}
-      → room_from e s.nodes owner size 0 s.count ≡ true → id ≡ id_of (held_at four position)
-      → errored ≡ is_errored (injection_of e) → state ≡ state_after e s owner size
-      → block ≡ block_without four position ((node_state s owner).pending - 1)
-      → payload' ≡ payload_without four (4 * owner) position ((node_state s owner).pending - 1 - position) payload
+      → room_from e s.nodes w.owner size 0 s.count ≡ true → id ≡ id_of (held_at four w.position)
+      → errored ≡ is_errored (injection_of e) → state ≡ state_after e s w.owner size
+      → block ≡ block_without four w.position ((node_state s w.owner).pending - 1)
+      → payload' ≡ payload_without four (4 * w.owner) w.position ((node_state s w.owner).pending - 1 - w.position) payload
       → queues'
-      ≡ queues_after e s.nodes owner position (held_at four position) ids
-      (part (2_048 * (4 * owner + position)) (data_length (held_at four position)) payload) 0 s.count queues
+      ≡ queues_after e s.nodes w.owner w.position (held_at four w.position) ids
+      (part (2_048 * (4 * w.owner + w.position)) (data_length (held_at four w.position)) payload) 0 s.count queues
       → ◌≡◌ {A = Ended}
       (record {
-        outcome = Ok (Carried owner id errored (s.round - (get_or four position free_slot).accepted));
-        memory = held state (set_block a (4 * owner) block) payload' queues';
+        outcome = Ok (Carried w.owner id errored (s.round - (get_or four w.position free_slot).accepted));
+        memory = held state (set_block a (4 * w.owner) block) payload' queues';
       })
-      (ended (carried_out m (injection_of e) (pending_at m owner position)))
+      (ended (carried_out m (injection_of e) (pending_at m w.owner w.position)))
   unfolding frame_at
   done-ended r i f g b p q =
       rw (
@@ -122,6 +123,6 @@ module _ (s : State) (a : List Slot) (payload queues : List ℕ) (e : Injection)
         p,
         q,
         winner-slot d,
-        d.drawn.block,
-        after_is s a payload queues e owner position sized d.drawn.valid (pending_at_lem d) ids d.drawn.named (rw (winner-slot d) at r),
+        d.block,
+        after_is s a payload queues e w.owner w.position sized d.valid (pending_at_lem d) ids d.named (rw (winner-slot d) at r),
       )

@@ -14,9 +14,9 @@ use Rattle.bus_state.specs.Memory.{node_state, held}
 use Rattle.bus_state.specs.Valid.{valid_state}
 use Rattle.bus_state.specs.declared.State.{State}
 use Rattle.scan.specs.declared.Winner.{Winner}
-use Rattle.scan.specs.declared.Winner.TheVariants.{Nobody, First}
+use Rattle.std.specs.Prelude.{Option, None, Some}
 use Rattle.scan.specs.Winner.{held_at, best_in, owner_of}
-use Rattle.arbitration.specs.Drawn.{Drawn, DrawnAt}
+use Rattle.arbitration.specs.Drawn.{Drawn}
 use Rattle.arbitration.specs.Owed.{Frames, Tellable, PendingAt}
 use Rattle.arbitration.proofs.Attached.{count-few, node_at_lem}
 use Rattle.arbitration.proofs.Laid.{block-slot}
@@ -41,39 +41,35 @@ module _ (s : State) (a : List Slot) (v : valid_state s a ≡ true) (ids : List 
         rw k at i;
   }
 
-module _ {s : State} {a : List Slot} {owner position : ℕ} {four : List Slot} {ids : List ℕ} (d : DrawnAt s a owner position four ids) where
-  pub pending_at_lem : PendingAt s owner position
-  pending_at_lem = let f = first-wins (held s a [] []) (sym d.drawn.first) in (f.attached, f.pending)
+module _ {s : State} {a : List Slot} {w : Winner} {four : List Slot} {ids : List ℕ} (d : Drawn s a (Some w) four ids) where
+  pub pending_at_lem : PendingAt s w.owner w.position
+  pending_at_lem = let f = first-wins (held s a [] []) (sym d.first) in (f.attached, f.pending)
 
-  pub four-slot : (i : ℕ) → i < 4 → get_or four i free_slot ≡ get_or a (4 * owner + i) free_slot
-  four-slot i h = ap (λ (l : List Slot). get_or l i free_slot) d.drawn.block ∙ block-slot a (4 * owner) i h
+  pub four-slot : (i : ℕ) → i < 4 → get_or four i free_slot ≡ get_or a (4 * w.owner + i) free_slot
+  four-slot i h = ap (λ (l : List Slot). get_or l i free_slot) d.block ∙ block-slot a (4 * w.owner) i h
 
   -- the numbers of the winner are small
-  pub place_small : (owner < 8) × (position < (node_state s owner).pending) × ((node_state s owner).pending ≤ 4)
+  pub place_small : (w.owner < 8) × (w.position < (node_state s w.owner).pending) × ((node_state s w.owner).pending ≤ 4)
   place_small =
-      let w = pending_at_lem in
-      (omega (arith, count-few s a d.drawn.valid, w.0), w.1, (node_at_lem s a d.drawn.valid owner w.0).few)
+      let p = pending_at_lem in
+      (omega (arith, count-few s a d.valid, p.0), p.1, (node_at_lem s a d.valid w.owner p.0).few)
 
-  pub winner-slot : get_or four position free_slot ≡ get_or a (4 * owner + position) free_slot
-  winner-slot = four-slot position (omega (arith, place_small.1, place_small.2))
+  pub winner-slot : get_or four w.position free_slot ≡ get_or a (4 * w.owner + w.position) free_slot
+  winner-slot = four-slot w.position (omega (arith, place_small.1, place_small.2))
 
   -- the owner's frames
-  pub four-frames : Frames four 0 (node_state s owner).pending
+  pub four-frames : Frames four 0 (node_state s w.owner).pending
   four-frames p l u =
-      rw (four-slot p (omega (arith, place_small.2))) ((node_at_lem s a d.drawn.valid owner pending_at_lem.0).frames p u)
+      rw (four-slot p (omega (arith, place_small.2))) ((node_at_lem s a d.valid w.owner pending_at_lem.0).frames p u)
 
 -- ---- where the winner is not known yet
 
 pub best_owner : (s : State) (a : List Slot) → valid_state s a ≡ true → owner_of (best_in s a) < 8
 best_owner s a v = go (best_in s a) refl
   where
-    go : (w : Winner) → best_in s a ≡ w → owner_of w < 8
-    go Nobody q = omega arith
-    go (First rank owner position) q = omega (arith, count-few s a v, (first-wins (held s a [] []) q).attached)
+    go : (w : Option Winner) → best_in s a ≡ w → owner_of w < 8
+    go None q = omega arith
+    go (Some w) q = omega (arith, count-few s a v, (first-wins (held s a [] []) q).attached)
 
-pub owner_small : {s : State} {a : List Slot} {best : Winner} {four : List Slot} {ids : List ℕ} → Drawn s a best four ids → owner_of best < 8
+pub owner_small : {s : State} {a : List Slot} {best : Option Winner} {four : List Slot} {ids : List ℕ} → Drawn s a best four ids → owner_of best < 8
 owner_small {s} {a} d = rw d.first (best_owner s a d.valid)
-
-pub first-drawn : {s : State} {a : List Slot} {best : Winner} {four : List Slot} {ids : List ℕ} {rank owner position : ℕ}
-    → Drawn s a best four ids → best ≡ First rank owner position → DrawnAt s a owner position four ids
-first-drawn {rank = rank} d q = record { rank = rank; drawn = rw q at d }

@@ -3,6 +3,7 @@
 use mathlib.Core.Path.{◌≡◌, refl, ◌∙◌}
 use mathlib.Core.List.{List, []}
 use mathlib.Core.Bool.{Bool, true, false, cond}
+use Rattle.std.specs.Prelude.{Option, None, Some}
 use Prim.Native.Nat.{ℕ, zero, suc, ◌+◌, ◌-◌, ◌*◌, ◌≤◌, ◌<◌}
 use native.Mathlib.Omega.{arith}
 use lib.Dec.{eqb}
@@ -17,15 +18,14 @@ use Rattle.bus_state.specs.Memory.{node_state, is_off}
 use Rattle.bus_state.specs.declared.State.{State}
 use Rattle.bus_state.specs.declared.NodeState.{NodeState}
 use Rattle.arbitration.specs.declared.Injection.{Injection}
-use Rattle.arbitration.specs.declared.Injection.TheVariants.{NoError, Injected}
 use Rattle.arbitration.specs.Owed.{told_count, owed_length, discards, discarded, own, news_to, notices_but, owed_to, news_length, Tellable, PendingAt}
 
-pub news_short : (e : Injection) (mine off : Bool) (size : ℕ) → size ≤ 2_070 → news_length e mine off size ≤ 2_070
-news_short NoError true off size h = omega arith
-news_short NoError false true size h = omega arith
-news_short NoError false false size h = h
-news_short (Injected code detector) mine true size h = omega arith
-news_short (Injected code detector) mine false size h = omega arith
+pub news_short : (e : Option Injection) (mine off : Bool) (size : ℕ) → size ≤ 2_070 → news_length e mine off size ≤ 2_070
+news_short None true off size h = omega arith
+news_short None false true size h = omega arith
+news_short None false false size h = h
+news_short (Some i) mine true size h = omega arith
+news_short (Some i) mine false size h = omega arith
 
 -- no more are discarded than are pending
 pub discarded-few : (d : NodeState) → discarded d ≤ d.pending
@@ -43,24 +43,24 @@ told-few d mine = go (discards d)
     go true = omega arith
     go false = omega arith
 
-pub owed-short : (e : Injection) (d : NodeState) (mine : Bool) (size : ℕ) → size ≤ 2_070
+pub owed-short : (e : Option Injection) (d : NodeState) (mine : Bool) (size : ℕ) → size ≤ 2_070
     → owed_length e d mine size ≤ 2_070 + 12 * d.pending
 unfolding owed_length
 owed-short e d mine size h = omega (arith, news_short e mine (is_off d) size h, told-few d mine)
 
 -- the news are as long as their number says
-pub news_length_is : (e : Injection) (j owner : ℕ) (off : Bool) (op : Operation) (bytes : List ℕ) (size : ℕ)
+pub news_length_is : (e : Option Injection) (j owner : ℕ) (off : Bool) (op : Operation) (bytes : List ℕ) (size : ℕ)
     → length bytes ≡ data_length op → size ≡ length_of op → length (news_to e j owner off op bytes) ≡ news_length e (eqb j owner) off size
 unfolding news_to
-news_length_is NoError j owner off op bytes size b n = go (eqb j owner) off
+news_length_is None j owner off op bytes size b n = go (eqb j owner) off
   where
     go : (mine off : Bool)
-        → length (cond mine (encode (Confirm (id_of op)) []) (cond off [] (encode op bytes))) ≡ news_length NoError mine off size
+        → length (cond mine (encode (Confirm (id_of op)) []) (cond off [] (encode op bytes))) ≡ news_length None mine off size
     go true off = encode-length (Confirm (id_of op)) []
     go false true = refl
     go false false = encode-length op bytes ∙ omega arith
-news_length_is (Injected code detector) j owner true op bytes size b n = refl
-news_length_is (Injected code detector) j owner false op bytes size b n = encode-length (BusError (id_of op) code (cond (eqb j detector) 1 2) (own (eqb j owner))) []
+news_length_is (Some i) j owner true op bytes size b n = refl
+news_length_is (Some i) j owner false op bytes size b n = encode-length (BusError (id_of op) i.code (cond (eqb j i.detector) 1 2) (own (eqb j owner))) []
 
 -- ---- the notices
 
@@ -107,7 +107,7 @@ notices_told ids d j owner position h few o = go (discards d) (eqb j owner) refl
         notices_all ids (4 * owner + position) d.pending (4 * j) (λ i l e. n (omega arith)) ∙ omega arith
 
 -- all that a node is owed is as long as its number says
-pub owed_length_is : {s : State} {owner position : ℕ} {ids : List ℕ} (e : Injection) (op : Operation) (bytes : List ℕ) (size : ℕ)
+pub owed_length_is : {s : State} {owner position : ℕ} {ids : List ℕ} (e : Option Injection) (op : Operation) (bytes : List ℕ) (size : ℕ)
     → Tellable s ids → PendingAt s owner position → length bytes ≡ data_length op
     → size ≡ length_of op → (j : ℕ) → j < s.count
     → length (owed_to e (node_state s j) j owner position op ids bytes) ≡ owed_length e (node_state s j) (eqb j owner) size

@@ -10,13 +10,13 @@ use Rattle.bus_state.specs.Memory.{Memory, frame_at}
 use Rattle.bus_model.specs.Primitives.{entry_at}
 use Rattle.bus_model.specs.Round.{pending_at, scan_frames, scan_nodes, winner_in}
 use Rattle.scan.specs.declared.Winner.{Winner}
-use Rattle.scan.specs.declared.Winner.TheVariants.{Nobody, First}
+use Rattle.std.specs.Prelude.{Option, None, Some}
 use Rattle.scan.specs.Winner.{before, better, best_of, best_from, best_in}
 
 -- the place of a winner
-abbrev place_of : plain.Winner → Winner
-place_of nobody = Nobody
-place_of (wins x) = First (rank_of x) x.owner x.position
+abbrev place_of : plain.Winner → Option Winner
+place_of nobody = None
+place_of (wins x) = Some (record { rank = rank_of x; owner = x.owner; position = x.position })
 
 better_place : (w : plain.Winner) (y : Entry) → place_of (plain.better w y) ≡ better (place_of w) (rank_of y) y.owner y.position
 unfolding plain.better better goes_before
@@ -25,7 +25,7 @@ better_place (wins x) y = go (before (rank_of y) y.owner y.position (rank_of x) 
   where
     go : (t : Bool)
         → place_of (wins (cond t y x))
-        ≡ cond t (First (rank_of y) y.owner y.position) (First (rank_of x) x.owner x.position)
+        ≡ cond t (place_of (wins y)) (place_of (wins x))
     go true = refl
     go false = refl
 
@@ -85,10 +85,10 @@ stands-winner m = stands-nodes m m.state.count m.state.count 0 nobody none (omeg
 
 -- ---- what the scan says of the model
 
-pub nobody-wins : (m : Memory) → best_in m.state m.slots ≡ Nobody → winner_in m ≡ nobody
+pub nobody-wins : (m : Memory) → best_in m.state m.slots ≡ None → winner_in m ≡ nobody
 nobody-wins m e = go (winner_in m) (winner_place m ∙ e)
   where
-    go : (w : plain.Winner) → place_of w ≡ Nobody → w ≡ nobody
+    go : (w : plain.Winner) → place_of w ≡ None → w ≡ nobody
     go nobody q = refl
     go (wins x) q = let z : ◌≡◌ {A = ℕ} 0 1 = cc in absurd (omega arith)
 
@@ -98,12 +98,12 @@ pub record Won (m : Memory) (owner position : ℕ) : Type 0 where
   pub attached : owner < m.state.count
   pub pending : position < (entry_at m owner).pending
 
-pub first-wins : (m : Memory) {rank owner position : ℕ} → best_in m.state m.slots ≡ First rank owner position → Won m owner position
-first-wins m {rank} {owner} {position} e = go (winner_in m) refl (stands-winner m) (winner_place m ∙ e)
+pub first-wins : (m : Memory) {won : Winner} → best_in m.state m.slots ≡ Some won → Won m won.owner won.position
+first-wins m {won} e = go (winner_in m) refl (stands-winner m) (winner_place m ∙ e)
   where
-    go : (w : plain.Winner) → winner_in m ≡ w → Stands m m.state.count w → place_of w ≡ First rank owner position → Won m owner position
+    go : (w : plain.Winner) → winner_in m ≡ w → Stands m m.state.count w → place_of w ≡ Some won → Won m won.owner won.position
     go nobody r none q = let z : ◌≡◌ {A = ℕ} 0 1 = cc in absurd (omega arith)
     go (wins x) r (stands j p h l) q =
-        let a : j ≡ owner = cc in
-        let b : p ≡ position = cc in
+        let a : j ≡ won.owner = cc in
+        let b : p ≡ won.position = cc in
         rw (← a, ← b) (record { winner = r; attached = h; pending = l })

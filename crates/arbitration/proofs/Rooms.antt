@@ -3,6 +3,7 @@
 use mathlib.Core.Path.{◌≡◌, ap, ◌∙◌}
 use mathlib.Core.Bool.{true, false, ◌&&◌}
 use mathlib.Core.List.{List}
+use Rattle.std.specs.Prelude.{Option}
 use Prim.Native.Nat.{ℕ, zero, suc, ◌+◌, ◌-◌, ◌*◌, ◌≤◌, ◌<◌}
 use native.Mathlib.Omega.{arith}
 use native.Mathlib.Nat.{add-zero, zero-add}
@@ -20,7 +21,7 @@ use Rattle.scan.specs.Winner.{entry_of}
 use Rattle.arbitration.specs.Owed.{Tellable, PendingAt, discarded, news_to, notices_but, owed_to, owed_length, room_from}
 use Rattle.arbitration.proofs.Lengths.{owed_length_is}
 
-module _ (e : Injection) (nodes : List NodeState) (owner size : ℕ) where
+module _ (e : Option Injection) (nodes : List NodeState) (owner size : ℕ) where
   -- what node j's queue holds after the round
   abbrev pub grown : ℕ → ℕ
   grown j = (entry_of nodes j).fill + owed_length e (entry_of nodes j) (eqb j owner) size
@@ -58,7 +59,7 @@ module _ (e : Injection) (nodes : List NodeState) (owner size : ℕ) where
   room_at n q j h = rw zero-add at (room_from_lem n 0 q j h)
 
 -- and of the bytes that it is owed
-pub owed-fits : {s : State} {owner position : ℕ} {ids : List ℕ} (e : Injection) (op : Operation) (bytes : List ℕ) (size : ℕ)
+pub owed-fits : {s : State} {owner position : ℕ} {ids : List ℕ} (e : Option Injection) (op : Operation) (bytes : List ℕ) (size : ℕ)
     → Tellable s ids → PendingAt s owner position → length bytes ≡ data_length op → size ≡ length_of op
     → room_from e s.nodes owner size 0 s.count ≡ true → (j : ℕ) → j < s.count
     → let d : NodeState = node_state s j in

@@ -2,6 +2,7 @@
 -- Assumes nothing.
 use mathlib.Core.Path.{◌≡◌, ap}
 use mathlib.Core.List.{List}
+use Rattle.std.specs.Prelude.{Option}
 use Prim.Native.Nat.{ℕ, suc, ◌+◌, ◌-◌, ◌*◌, ◌≤◌, ◌<◌}
 use native.Mathlib.Omega.{arith}
 use lib.Dec.{eqb}
@@ -14,7 +15,7 @@ use Rattle.scan.specs.Winner.{entry_of}
 use Rattle.arbitration.specs.Owed.{owed_to}
 use Rattle.arbitration.specs.After.{entry_after, entries_after, queues_after}
 
-module _ (e : Injection) (nodes : List NodeState) (owner size : ℕ) where
+module _ (e : Option Injection) (nodes : List NodeState) (owner size : ℕ) where
   pub entries_next : (j n : ℕ) (l : List NodeState) → j < n
       → entries_after e nodes owner size j (n - j) l
       ≡ entries_after e nodes owner size (suc j) (n - suc j) (set l j (entry_after e (entry_of nodes j) (eqb j owner) size))
@@ -29,7 +30,7 @@ module _ (e : Injection) (nodes : List NodeState) (owner size : ℕ) where
       let k : n - j ≡ 0 = omega arith in
       ap (λ (i : ℕ). entries_after e nodes owner size j i l) k
 
-module _ (e : Injection) (nodes : List NodeState) (owner position : ℕ) (op : Operation) (ids bytes : List ℕ) where
+module _ (e : Option Injection) (nodes : List NodeState) (owner position : ℕ) (op : Operation) (ids bytes : List ℕ) where
   pub queues-next : (j n : ℕ) (q : List ℕ) → j < n
       → queues_after e nodes owner position op ids bytes j (n - j) q
       ≡ queues_after e nodes owner position op ids bytes (suc j) (n - suc j)

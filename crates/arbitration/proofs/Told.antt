@@ -3,6 +3,7 @@
 use mathlib.Core.Path.{◌≡◌, refl, ap}
 use mathlib.Core.Bool.{Bool, true, false, cond}
 use mathlib.Core.List.{List, [], ◌++◌}
+use Rattle.std.specs.Prelude.{Option, None, Some}
 use Prim.Native.Nat.{ℕ, suc, ◌-◌, ◌≤◌, ◌<◌}
 use native.Mathlib.Omega.{arith}
 use lib.Dec.{eqb}
@@ -15,7 +16,6 @@ use Rattle.operation.specs.declared.Operation.{Operation}
 use Rattle.operation.specs.declared.Operation.TheVariants.{Confirm, ArbitrationLost, BusError}
 use Rattle.operation.proofs.Tests.{false_is_true, one_small}
 use Rattle.arbitration.specs.declared.Injection.{Injection}
-use Rattle.arbitration.specs.declared.Injection.TheVariants.{NoError, Injected}
 use Rattle.arbitration.specs.Injections.{has_legal_code}
 use Rattle.arbitration.specs.Owed.{own, flag_at, news_to, notice_of, notices_but}
 
@@ -55,30 +55,30 @@ code_small code e =
     (λ e. one_small code 5 _ e (λ q. omega arith) (λ e. one_small code 6 _ e (λ q. omega arith) (λ e. false_is_true e))))))
 
 -- the code of an injection that has a legal one
-pub legal_code : {e : Injection} {code detector : ℕ} → e ≡ Injected code detector → has_legal_code e ≡ true → one_of code error_codes ≡ true
+pub legal_code : {e : Option Injection} {i : Injection} → e ≡ Some i → has_legal_code e ≡ true → one_of i.code error_codes ≡ true
 legal_code q l = rw q at l
 
 -- ---- the news
 
 module _ (j owner : ℕ) (off : Bool) (op : Operation) (bytes : List ℕ) where
-  pub news_own : {e : Injection} → e ≡ NoError → j ≡ owner → news_to e j owner off op bytes ≡ encode (Confirm (id_of op)) []
+  pub news_own : {e : Option Injection} → e ≡ None → j ≡ owner → news_to e j owner off op bytes ≡ encode (Confirm (id_of op)) []
   unfolding news_to
   news_own q h = rw (q, eq-eqb j owner h)
 
-  pub news_none : {e : Injection} → e ≡ NoError → (j ≡ owner → ⊥) → off ≡ true → news_to e j owner off op bytes ≡ []
+  pub news_none : {e : Option Injection} → e ≡ None → (j ≡ owner → ⊥) → off ≡ true → news_to e j owner off op bytes ≡ []
   unfolding news_to
   news_none q h o = rw (q, ne_eqb j owner h, o)
 
-  pub news_other : {e : Injection} → e ≡ NoError → (j ≡ owner → ⊥) → off ≡ false → news_to e j owner off op bytes ≡ encode op bytes
+  pub news_other : {e : Option Injection} → e ≡ None → (j ≡ owner → ⊥) → off ≡ false → news_to e j owner off op bytes ≡ encode op bytes
   unfolding news_to
   news_other q h o = rw (q, ne_eqb j owner h, o)
 
-  pub news_silent : {e : Injection} {code detector : ℕ} → e ≡ Injected code detector → off ≡ true → news_to e j owner off op bytes ≡ []
+  pub news_silent : {e : Option Injection} {i : Injection} → e ≡ Some i → off ≡ true → news_to e j owner off op bytes ≡ []
   unfolding news_to
   news_silent q o = rw (q, o)
 
-  pub news_error : {e : Injection} {code detector : ℕ} → e ≡ Injected code detector → off ≡ false
-      → news_to e j owner off op bytes ≡ encode (BusError (id_of op) code (flag_at j detector) (own (eqb j owner))) []
+  pub news_error : {e : Option Injection} {i : Injection} → e ≡ Some i → off ≡ false
+      → news_to e j owner off op bytes ≡ encode (BusError (id_of op) i.code (flag_at j i.detector) (own (eqb j owner))) []
   unfolding news_to
   news_error q o = rw (q, o)
 

@@ -1,7 +1,7 @@
 -- Internal. What a round that is carried out leaves: the entries, the queues, and, once these are written, the slots and the payload
 -- without the winner (01, "One round").
 -- Assumes nothing.
-use Rattle.std.specs.Prelude.{ℕ, zero, suc, ◌+◌, ◌*◌, List, [], ◌∷◌, Bool, cond, ◌&&◌, leb, ltb, eqb, get_or, set}
+use Rattle.std.specs.Prelude.{ℕ, zero, suc, ◌+◌, ◌*◌, List, [], ◌∷◌, Bool, cond, ◌&&◌, leb, ltb, eqb, get_or, set, Option}
 use Rattle.operation.specs.Format.{data_length}
 use Rattle.operation.specs.declared.Operation.{Operation}
 use Rattle.buffers.specs.Parts.{part, over}
@@ -16,22 +16,22 @@ use Rattle.scan.specs.Winner.{held_at, entry_of}
 use Rattle.arbitration.specs.Owed.{owed_length, owed_to, stay_count}
 
 -- a node's entry after the round
-unfoldable pub entry_after : Injection → NodeState → Bool → ℕ → NodeState
+unfoldable pub entry_after : Option Injection → NodeState → Bool → ℕ → NodeState
 entry_after e d mine size = entry_pending (entry_fill d (d.fill + owed_length e d mine size)) (stay_count d mine)
 
 -- the entries of n nodes from number j on, set one by one
-unfoldable pub entries_after : Injection → List NodeState → ℕ → ℕ → ℕ → ℕ → List NodeState → List NodeState
+unfoldable pub entries_after : Option Injection → List NodeState → ℕ → ℕ → ℕ → ℕ → List NodeState → List NodeState
 entries_after e nodes owner size j zero l = l
 entries_after e nodes owner size j (suc n) l =
     entries_after e nodes owner size (suc j) n (set l j (entry_after e (entry_of nodes j) (eqb j owner) size))
 
 -- the state after the round
-unfoldable pub state_after : Injection → State → ℕ → ℕ → State
+unfoldable pub state_after : Option Injection → State → ℕ → ℕ → State
 state_after e s owner size =
     record { count = s.count; round = s.round + 1; nodes = entries_after e s.nodes owner size 0 s.count s.nodes }
 
 -- the queues of n nodes from number j on, each with what its node is owed behind its fill
-unfoldable pub queues_after : Injection → List NodeState → ℕ → ℕ → Operation → List ℕ → List ℕ → ℕ → ℕ → List ℕ → List ℕ
+unfoldable pub queues_after : Option Injection → List NodeState → ℕ → ℕ → Operation → List ℕ → List ℕ → ℕ → ℕ → List ℕ → List ℕ
 queues_after e nodes owner position op ids bytes j zero q = q
 queues_after e nodes owner position op ids bytes j (suc n) q =
     queues_after e nodes owner position op ids bytes (suc j) n

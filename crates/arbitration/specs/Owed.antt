@@ -1,6 +1,6 @@
 -- Internal. What a round owes each node: bytes, and their number, which decides before any byte is written (01, "One round").
 -- Assumes nothing.
-use Rattle.std.specs.Prelude.{ℕ, zero, suc, ◌+◌, ◌-◌, ◌*◌, ◌≤◌, ◌<◌, ◌≡◌, List, [], ◌++◌, Bool, true, cond, ◌&&◌, leb, eqb, get_or}
+use Rattle.std.specs.Prelude.{ℕ, zero, suc, ◌+◌, ◌-◌, ◌*◌, ◌≤◌, ◌<◌, ◌≡◌, List, [], ◌++◌, Bool, true, cond, ◌&&◌, leb, eqb, get_or, Option, None, Some}
 use Rattle.operation.specs.Format.{data_length, length_of, encode}
 use Rattle.operation.specs.Kinds.{id_of}
 use Rattle.operation.specs.Rules.{legal, max_extended_id}
@@ -13,7 +13,6 @@ use Rattle.bus_state.specs.Memory.{slots_per_node, bytes_per_slot, bytes_per_que
 use Rattle.bus_state.specs.declared.State.{State}
 use Rattle.bus_state.specs.declared.NodeState.{NodeState}
 use Rattle.arbitration.specs.declared.Injection.{Injection}
-use Rattle.arbitration.specs.declared.Injection.TheVariants.{NoError, Injected}
 use Rattle.scan.specs.Winner.{held_at, entry_of}
 
 -- ---- a frame, and a node's entry
@@ -71,10 +70,10 @@ abbrev pub flag_at : ℕ → ℕ → ℕ
 flag_at j detector = cond (eqb j detector) primary_error_flag secondary_error_flag
 
 -- what node j is told of the winner: its Transmit with its data, Confirm at its owner, or Bus Error; nothing at a Bus-Off node
-unfoldable pub news_to : Injection → ℕ → ℕ → Bool → Operation → List ℕ → List ℕ
-news_to NoError j owner off op bytes = cond (eqb j owner) (encode (Confirm (id_of op)) []) (cond off [] (encode op bytes))
-news_to (Injected code detector) j owner off op bytes =
-    cond off [] (encode (BusError (id_of op) code (flag_at j detector) (own (eqb j owner))) [])
+unfoldable pub news_to : Option Injection → ℕ → ℕ → Bool → Operation → List ℕ → List ℕ
+news_to None j owner off op bytes = cond (eqb j owner) (encode (Confirm (id_of op)) []) (cond off [] (encode op bytes))
+news_to (Some i) j owner off op bytes =
+    cond off [] (encode (BusError (id_of op) i.code (flag_at j i.detector) (own (eqb j owner))) [])
 
 -- Arbitration Lost for a frame by its ID, unless it is the winner
 abbrev pub notice_of : Bool → ℕ → List ℕ
@@ -86,7 +85,7 @@ notices_but ids winner p zero = []
 notices_but ids winner p (suc n) = notice_of (eqb p winner) (get_or ids p 0) ++ notices_but ids winner (suc p) n
 
 -- all that node j is owed, by its entry; the winner is op, in the owner's slot at a position
-unfoldable pub owed_to : Injection → NodeState → ℕ → ℕ → ℕ → Operation → List ℕ → List ℕ → List ℕ
+unfoldable pub owed_to : Option Injection → NodeState → ℕ → ℕ → ℕ → Operation → List ℕ → List ℕ → List ℕ
 owed_to e d j owner position op ids bytes =
     news_to e j owner (is_off d) op bytes
     ++ notices_but ids (slots_per_node * owner + position) (slots_per_node * j) (discarded d)
@@ -104,16 +103,16 @@ abbrev pub error_length : ℕ
 error_length = length_of (BusError 0 0 0 0)
 
 -- of the news, by whether the winner is the node's own and whether the node is Bus-Off
-abbrev pub news_length : Injection → Bool → Bool → ℕ → ℕ
-news_length NoError mine off size = cond mine confirm_length (cond off 0 size)
-news_length (Injected code detector) mine off size = cond off 0 error_length
+abbrev pub news_length : Option Injection → Bool → Bool → ℕ → ℕ
+news_length None mine off size = cond mine confirm_length (cond off 0 size)
+news_length (Some i) mine off size = cond off 0 error_length
 
 -- of all that a node is owed; size is the length of the winner's Transmit
-unfoldable pub owed_length : Injection → NodeState → Bool → ℕ → ℕ
+unfoldable pub owed_length : Option Injection → NodeState → Bool → ℕ → ℕ
 owed_length e d mine size = news_length e mine (is_off d) size + lost_length * told_count d mine
 
 -- each of n queues from number j on has room for what its node is owed
-unfoldable pub room_from : Injection → List NodeState → ℕ → ℕ → ℕ → ℕ → Bool
+unfoldable pub room_from : Option Injection → List NodeState → ℕ → ℕ → ℕ → ℕ → Bool
 room_from e nodes owner size j zero = true
 room_from e nodes owner size j (suc n) =
     leb ((entry_of nodes j).fill + owed_length e (entry_of nodes j) (eqb j owner) size) bytes_per_queue

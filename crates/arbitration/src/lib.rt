@@ -2,21 +2,21 @@
 // This is for the bus crate above: what is required its caller must meet.
 #![tactic(auto)]
 
-ghost use Rattle.std.specs.Prelude.{◌≡◌, true, List, [], ◌+◌, ◌-◌, ◌*◌, ◌≤◌, ◌<◌, length};
+ghost use Rattle.std.specs.Prelude.{◌≡◌, true, List, [], ◌+◌, ◌-◌, ◌*◌, ◌≤◌, ◌<◌, length, Option, Some};
 ghost use Rattle.operation.specs.Format.{data_length, length_of, encode};
 ghost use Rattle.operation.specs.Rules.{legal, max_extended_id};
 ghost use Rattle.buffers.specs.Parts.{over};
 ghost use Rattle.slots.specs.Slots.{content_of, held_in};
 ghost use Rattle.plain_bus.specs.Held.{last_round};
 ghost use Rattle.plain_bus.specs.Order.{wins};
-ghost use Rattle.plain_bus.specs.Round.{is_errored, injection_from};
+ghost use Rattle.plain_bus.specs.Round.{injection_from};
 ghost use Rattle.bus_state.specs.Memory.{node_state, held, slot_count, slots_per_node, bytes_per_slot, bytes_per_queue, payload_bytes, queue_bytes, is_off};
 ghost use Rattle.bus_model.specs.Round.{pending_at};
 ghost use Rattle.bus_model.specs.Calls.{arbitrate_in, rounded};
 ghost use Rattle.outcome.specs.Ended.{ended_by, ended};
 ghost use Rattle.arbitration.specs.Injections.{injection_of, has_legal_code, is_wrong};
 ghost use Rattle.scan.specs.Winner.{held_at, owner_of};
-ghost use Rattle.arbitration.specs.Drawn.{Drawn, DrawnAt};
+ghost use Rattle.arbitration.specs.Drawn.{Drawn};
 ghost use Rattle.arbitration.specs.Owed.{Writable, Frames, Tellable, PendingAt, discards, discarded, own, told_count, stay_count, flag_at, news_to, notice_of, news_length, owed_length, room_from};
 ghost use Rattle.arbitration.specs.After.{entry_after, state_after, queues_after, source, block_without, payload_without};
 ghost use Rattle.arbitration.specs.Round.{carried_out};
@@ -29,65 +29,45 @@ use slots::Slot;
 
 // An error injected into a round: its code, and the number of the node that detects it.
 #[derive(Clone, Copy)]
-pub enum Injection {
-    NoError,
-    Injected { code: u32, detector: u32 },
+pub struct Injection {
+    pub code: u32,
+    pub detector: u32,
 }
 
 // From the numbers of a call: 0 for no error, any other for one.
-pub fn injection_of(injected: u32, code: u32, detector: u32) -> Injection
+pub fn injection_of(injected: u32, code: u32, detector: u32) -> Option<Injection>
     ensures { injection_of result ≡ injection_from injected code detector }
 {
-    if injected == 0 {
-        return Injection::NoError;
-    }
-    Injection::Injected { code, detector }
+    (injected != 0).then_some(Injection { code, detector })
 }
 
 // Whether an injection is refused: its code is not in the table, or its node not attached or Bus-Off.
-fn is_wrong(s: State, e: Injection) -> bool
+#[tactic(auto, unfolding(crate::specs::Injections::is_wrong))]
+fn is_wrong(s: State, e: Option<Injection>) -> bool
     requires { s.count ≤ 8 }
     ensures { result ≡ is_wrong s e }
 {
-    match e {
-        Injection::NoError => false,
-        Injection::Injected { code, detector } => {
-            if s.count <= detector {
-                return true;
-            }
-            let nodes = s.nodes;
-            !operation::is_error_code(code) | bus_state::is_off(nodes[detector as usize])
-        }
+    let Some(Injection { code, detector }) = e else {
+        return false;
+    };
+    if s.count <= detector {
+        return true;
     }
-}
-
-fn is_errored(e: Injection) -> bool
-    ensures { result ≡ is_errored (injection_of e) }
-{
-    match e {
-        Injection::NoError => false,
-        Injection::Injected {
-            code: _,
-            detector: _,
-        } => true,
-    }
+    let nodes = s.nodes;
+    !operation::is_error_code(code) | bus_state::is_off(nodes[detector as usize])
 }
 
 // ---- the winner
 
 // The first slot of the winner's node; 0 where there is no winner.
-fn first_slot(best: Winner) -> usize
+fn first_slot(best: Option<Winner>) -> usize
     requires { owner_of best < 8 }
     ensures { result ≡ slots_per_node * owner_of best }
 {
-    match best {
-        Winner::Nobody => 0,
-        Winner::First {
-            rank: _,
-            owner,
-            position: _,
-        } => bus_state::SLOTS_PER_NODE * owner,
-    }
+    let Some(won) = best else {
+        return 0;
+    };
+    bus_state::SLOTS_PER_NODE * won.owner
 }
 
 // ---- the removal of the winner
@@ -121,8 +101,7 @@ fn move_data(payload: &mut [u8], four: [Slot; 4], at: usize, position: usize, la
     requires frames { Frames four position (last + 1) }
     ensures { payload.new ≡ payload_without four at position (last - position) payload.old }
 {
-    let mut q = position;
-    while q < last {
+    for q in position..last {
         let n = operation::data_length(slots::held_in(four[q + 1])) as usize;
         buffers::shift(
             payload,
@@ -130,7 +109,6 @@ fn move_data(payload: &mut [u8], four: [Slot; 4], at: usize, position: usize, la
             bus_state::BYTES_PER_SLOT * (at + q + 1),
             n,
         );
-        q += 1;
     }
 }
 
@@ -175,11 +153,11 @@ fn stay_count(d: NodeState, mine: bool) -> u8
 }
 
 // How many bytes a node is told of the winner.
-fn news_length(e: Injection, mine: bool, off: bool, size: usize) -> usize
+fn news_length(e: Option<Injection>, mine: bool, off: bool, size: usize) -> usize
     ensures { result ≡ news_length e mine off size }
 {
     match e {
-        Injection::NoError => {
+        None => {
             if mine {
                 return operation::CONFIRM_LENGTH;
             }
@@ -188,10 +166,7 @@ fn news_length(e: Injection, mine: bool, off: bool, size: usize) -> usize
             }
             size
         }
-        Injection::Injected {
-            code: _,
-            detector: _,
-        } => {
+        Some(_) => {
             if off {
                 return 0;
             }
@@ -201,7 +176,7 @@ fn news_length(e: Injection, mine: bool, off: bool, size: usize) -> usize
 }
 
 // How many bytes a node is owed in all.
-fn owed_length(d: NodeState, mine: bool, e: Injection, size: usize) -> usize
+fn owed_length(d: NodeState, mine: bool, e: Option<Injection>, size: usize) -> usize
     requires { (own mine ≤ d.pending) × (size ≤ 2070) }
     ensures { result ≡ owed_length e d mine size }
 {
@@ -211,19 +186,17 @@ fn owed_length(d: NodeState, mine: bool, e: Injection, size: usize) -> usize
 }
 
 // Whether every queue has room for what its node is owed; size is the length of the winner's Transmit.
-fn has_room(s: State, e: Injection, owner: usize, size: usize) -> bool
+fn has_room(s: State, e: Option<Injection>, owner: usize, size: usize) -> bool
     requires { (s.count ≤ 8) × (1 ≤ (node_state s owner).pending) × (size ≤ 2070) }
     ensures { result ≡ room_from e s.nodes owner size 0 s.count }
 {
     let attached = s.count as usize;
     let nodes = s.nodes;
-    let mut j = 0;
-    while j < attached {
+    for j in 0..attached {
         let d = nodes[j];
         if bus_state::BYTES_PER_QUEUE < d.fill as usize + owed_length(d, j == owner, e, size) {
             return false;
         }
-        j += 1;
     }
     true
 }
@@ -275,7 +248,7 @@ fn flag_at(j: usize, detector: u32) -> u8
 
 // What a node is told of the winner, by its number, the winner's node, and whether it is Bus-Off.
 fn put_news(
-    e: Injection,
+    e: Option<Injection>,
     j: usize,
     owner: usize,
     off: bool,
@@ -290,7 +263,7 @@ fn put_news(
     ensures { queues.new ≡ over queues.old at (news_to e j owner off (held_in (content_of winner)) bytes.now) }
 {
     match e {
-        Injection::NoError => {
+        None => {
             if j == owner {
                 put_confirm(slots::id_of(winner), queues, at);
                 return;
@@ -300,7 +273,7 @@ fn put_news(
             }
             put_operation(slots::held_in(winner), bytes, queues, at);
         }
-        Injection::Injected { code, detector } => {
+        Some(Injection { code, detector }) => {
             if off {
                 return;
             }
@@ -335,7 +308,7 @@ fn put_notice(id: u32, wins: bool, queues: &mut [u8], at: usize) -> usize
 fn tell(
     d: NodeState,
     j: usize,
-    e: Injection,
+    e: Option<Injection>,
     owner: usize,
     size: usize,
     winner: Slot,
@@ -356,7 +329,7 @@ fn tell(
 }
 
 // A node's entry after the round.
-fn entry_after(d: NodeState, mine: bool, e: Injection, size: usize) -> NodeState
+fn entry_after(d: NodeState, mine: bool, e: Option<Injection>, size: usize) -> NodeState
     requires { (own mine ≤ d.pending) × (size ≤ 2070) × (d.fill + owed_length e d mine size ≤ bytes_per_queue) }
     ensures { result ≡ entry_after e d mine size }
 {
@@ -368,7 +341,7 @@ fn entry_after(d: NodeState, mine: bool, e: Injection, size: usize) -> NodeState
 // Writes what every node is owed, and gives the state after the round.
 fn tell_all(
     s: State,
-    e: Injection,
+    e: Option<Injection>,
     owner: usize,
     position: usize,
     size: usize,
@@ -387,18 +360,14 @@ fn tell_all(
     let count = s.count as usize;
     let slot = bus_state::SLOTS_PER_NODE * owner + position;
     let mut after = s.nodes;
-    let mut j = 0;
-    while j < count {
+    for j in 0..count {
         let d = after[j];
         let mut to = tell(d, j, e, owner, size, winner, bytes, queues);
-        let mut p = bus_state::SLOTS_PER_NODE * j;
-        let end = p + discarded(d) as usize;
-        while p < end {
+        let first = bus_state::SLOTS_PER_NODE * j;
+        for p in first..first + discarded(d) as usize {
             to = put_notice(ids[p], p == slot, queues, to);
-            p += 1;
         }
         after[j] = entry_after(d, j == owner, e, size);
-        j += 1;
     }
     State {
         count: s.count,
@@ -419,18 +388,22 @@ fn carry_out(
     ids: [u32; 32],
     payload: &mut [u8],
     queues: &mut [u8],
-    e: Injection,
-    owner: usize,
-    position: usize,
+    e: Option<Injection>,
+    won: Winner,
     size: usize,
 ) -> Change
-    requires drawn_at { (a : List Slot) × DrawnAt s a owner position four ids }
+    requires drawn { (a : List Slot) × Drawn s a (Some won) four ids }
     requires round_lt_last_round { (s.round < last_round) × (has_legal_code e ≡ true) }
-    requires size_value { (size ≡ length_of (held_at four position)) × (room_from e s.nodes owner size 0 s.count ≡ true) }
+    requires size_value { (size ≡ length_of (held_at four won.position)) × (room_from e s.nodes won.owner size 0 s.count ≡ true) }
     requires payload_len { (length payload.old ≡ payload_bytes) × (length queues.old ≡ queue_bytes) }
-    ensures queues_after { (a : List Slot) → DrawnAt s a owner position four ids → ended_by result a payload.new queues.new ≡ ended (carried_out (held s a payload.old queues.old) (injection_of e) (pending_at (held s a payload.old queues.old) owner position)) }
-    ensures at_value { result.at ≡ slots_per_node * owner }
+    ensures queues_after { (a : List Slot) → Drawn s a (Some won) four ids → ended_by result a payload.new queues.new ≡ ended (carried_out (held s a payload.old queues.old) (injection_of e) (pending_at (held s a payload.old queues.old) won.owner won.position)) }
+    ensures at_value { result.at ≡ slots_per_node * won.owner }
 {
+    let Winner {
+        owner,
+        position,
+        ..
+    } = won;
     let d = bus_state::entry(s, owner);
     let at = bus_state::SLOTS_PER_NODE * owner;
     let winner = four[position];
@@ -453,7 +426,7 @@ fn carry_out(
     let outcome = Done::Carried {
         sender: owner as u8,
         id: slots::id_of(winner),
-        errored: is_errored(e),
+        errored: e.is_some(),
         age: s.round - winner.accepted,
     };
     Change {
@@ -471,16 +444,20 @@ fn arbitrate(
     ids: [u32; 32],
     payload: &mut [u8],
     queues: &mut [u8],
-    e: Injection,
-    owner: usize,
-    position: usize,
+    e: Option<Injection>,
+    won: Winner,
 ) -> Change
-    requires drawn_at { (a : List Slot) × DrawnAt s a owner position four ids }
+    requires drawn { (a : List Slot) × Drawn s a (Some won) four ids }
     requires e_value { has_legal_code e ≡ true }
     requires payload_len { (length payload.old ≡ payload_bytes) × (length queues.old ≡ queue_bytes) }
-    ensures queues_after { (a : List Slot) → DrawnAt s a owner position four ids → ended_by result a payload.new queues.new ≡ ended (arbitrate_in (held s a payload.old queues.old) (injection_of e) (wins (pending_at (held s a payload.old queues.old) owner position))) }
-    ensures at_value { result.at ≡ slots_per_node * owner }
+    ensures queues_after { (a : List Slot) → Drawn s a (Some won) four ids → ended_by result a payload.new queues.new ≡ ended (arbitrate_in (held s a payload.old queues.old) (injection_of e) (wins (pending_at (held s a payload.old queues.old) won.owner won.position))) }
+    ensures at_value { result.at ≡ slots_per_node * won.owner }
 {
+    let Winner {
+        owner,
+        position,
+        ..
+    } = won;
     let op = slots::held_in(four[position]);
     let size = operation::head_length(op) + operation::data_length(op) as usize;
     if !has_room(s, e, owner, size) {
@@ -499,19 +476,19 @@ fn arbitrate(
             block: four,
         };
     }
-    carry_out(s, four, ids, payload, queues, e, owner, position, size)
+    carry_out(s, four, ids, payload, queues, e, won, size)
 }
 
 // One round, for the winner among some slots, its node's four of them, and every slot's ID. The lent memory changes only where it is
 // carried out.
 pub fn round(
     s: State,
-    best: Winner,
+    best: Option<Winner>,
     four: [Slot; 4],
     ids: [u32; 32],
     payload: &mut [u8],
     queues: &mut [u8],
-    e: Injection,
+    e: Option<Injection>,
 ) -> Change
     requires drawn { (a : List Slot) × Drawn s a best four ids }
     requires payload_len { (length payload.old ≡ payload_bytes) × (length queues.old ≡ queue_bytes) }
@@ -528,17 +505,13 @@ pub fn round(
             block: four,
         };
     }
-    match best {
-        Winner::Nobody => Change {
+    let Some(won) = best else {
+        return Change {
             outcome: Ok(Done::Idle),
             state: s,
             at,
             block: four,
-        },
-        Winner::First {
-            rank: _,
-            owner,
-            position,
-        } => arbitrate(s, four, ids, payload, queues, e, owner, position),
-    }
+        };
+    };
+    arbitrate(s, four, ids, payload, queues, e, won)
 }

@@ -10,6 +10,7 @@ use lib.Dec.{leb, ltb, eqb}
 use lib.ListN.{length, take, drop, length-drop}
 use lib.Seq.{length-take-le, drop-append_seam}
 use borrow.Author.Tests.{leb-true, eqb-true}
+use Rattle.std.specs.Prelude.{Option, Some, None}
 use Rattle.operation.specs.Number.{Bytes, number_at}
 use Rattle.buffers.specs.Parts.{over}
 use Rattle.operation.specs.Format.{data_length, length_of, encode}
@@ -32,8 +33,6 @@ use Rattle.codec.specs.Claims.{ReadsAs, WritesAs, after}
 use Rattle.codec.proofs.Claims.{written-reads, read_writes, reads_through}
 use Rattle.kettlefrost.specs.Flat.{flat, named}
 use Rattle.kettlefrost.specs.Calls.{read_answer, part_of, data_answer, write_answer, buffer_after_write, length_written}
-use Rattle.kettlefrost.specs.declared.Named.{Named}
-use Rattle.kettlefrost.specs.declared.Named.TheVariants.{Known, Unknown}
 use Rattle.kettlefrost.specs.declared.FlatOperation.{FlatOperation}
 use Rattle.kettlefrost.specs.declared.ReadAnswer.{ReadAnswer}
 use Rattle.kettlefrost.specs.declared.WriteAnswer.{WriteAnswer}
@@ -77,7 +76,7 @@ module _ (s : List ℕ) (at : ℕ) (op : Operation) (next : ℕ) (e : read_at s 
 
   data_as : data_in s (read_in s at) ≡ data_at s op next
   data_as =
-      ap (data_in s) read_as ∙ ap (λ (n : Named). part_in s (data_answer s n next)) (named_flat op) ∙ data_part s op next
+      ap (data_in s) read_as ∙ ap (λ (n : Option Operation). part_in s (data_answer s n next)) (named_flat op) ∙ data_part s op next
 
 -- ---- what is written reads back
 
@@ -87,12 +86,12 @@ written_back : (f : FlatOperation) (payload buffer : List ℕ) → TypedFlat f
     → ReadsBack (before ++ (take a.length (buffer_after_write (named f) payload buffer) ++ rest)) (length before) f payload a.length
 written_back f payload buffer t h before rest = go (named f) refl h
   where
-    Back : Named → Type 0
+    Back : Option Operation → Type 0
     Back n =
         let k = (write_answer n (length payload) (length buffer)).length in
         ReadsBack (before ++ (take k (buffer_after_write n payload buffer) ++ rest)) (length before) f payload k
 
-    known : (op : Operation) → named f ≡ Known op → (w : Written) → write_outcome op (length payload) (length buffer) ≡ w
+    known : (op : Operation) → named f ≡ Some op → (w : Written) → write_outcome op (length payload) (length buffer) ≡ w
         → written_number w ≡ 0
         → ReadsBack (before ++ (take (length_written w) (written_of op payload buffer) ++ rest)) (length before) f payload (length_written w)
     known op q (Done n) e z =
@@ -110,9 +109,9 @@ written_back f payload buffer t h before rest = go (named f) refl h
     known op q RuleBroken e z = absurd (omega (arith, z))
     known op q BufferTooSmall e z = absurd (omega (arith, z))
 
-    go : (n : Named) → named f ≡ n → (write_answer n (length payload) (length buffer)).refusal ≡ 0 → Back n
-    go Unknown q z = absurd (omega (arith, z))
-    go (Known op) q z = known op q (write_outcome op (length payload) (length buffer)) refl z
+    go : (n : Option Operation) → named f ≡ n → (write_answer n (length payload) (length buffer)).refusal ≡ 0 → Back n
+    go None q z = absurd (omega (arith, z))
+    go (Some op) q z = known op q (write_outcome op (length payload) (length buffer)) refl z
 
 -- ---- what is read writes back
 
@@ -181,9 +180,9 @@ read_back s at u e z buffer room =
             let d = data_at s op next in
             let n = named_flat op in
             record {
-              refusal = ap (λ (x : Named). (write_answer x (length d) (length buffer)).refusal) n ∙ ap written_number w.answer;
-              length = ap (λ (x : Named). (write_answer x (length d) (length buffer)).length) n ∙ ap length_written w.answer;
-              same = ap (λ (x : Named). take (next - at) (buffer_after_write x d buffer)) n ∙ w.same;
+              refusal = ap (λ (x : Option Operation). (write_answer x (length d) (length buffer)).refusal) n ∙ ap written_number w.answer;
+              length = ap (λ (x : Option Operation). (write_answer x (length d) (length buffer)).length) n ∙ ap length_written w.answer;
+              same = ap (λ (x : Option Operation). take (next - at) (buffer_after_write x d buffer)) n ∙ w.same;
             }
 
 -- ---- what is demanded of kf_read
@@ -209,10 +208,10 @@ reads s at r u e = subst (Read s at) (sym e) (read_is s at u)
 
 -- ---- what is demanded of kf_write
 
-write_number : (n : Named) (given room : ℕ) → (write_answer n given room).refusal ≡ first_row (write_rows n given room)
+write_number : (n : Option Operation) (given room : ℕ) → (write_answer n given room).refusal ≡ first_row (write_rows n given room)
 unfolding write_outcome decision first_row
-write_number Unknown given room = refl
-write_number (Known op) given room = go (can_write (Known op) given) (fits_in (Known op) room)
+write_number None given room = refl
+write_number (Some op) given room = go (can_write (Some op) given) (fits_in (Some op) room)
   where
     go : (t u : Bool) → written_number (cond t (cond u (Done (length_of op)) BufferTooSmall) RuleBroken) ≡ cond (not t) 7 (cond
         (not u) 11 0)
@@ -227,12 +226,12 @@ outcome-kept (Done n) bytes buffer k = absurd (k refl)
 outcome-kept RuleBroken bytes buffer k = (refl, refl)
 outcome-kept BufferTooSmall bytes buffer k = (refl, refl)
 
-write_kept : (n : Named) (payload buffer : List ℕ)
+write_kept : (n : Option Operation) (payload buffer : List ℕ)
     → let a = write_answer n (length payload) (length buffer) in
     (a.refusal ≡ 0 → ⊥) → (a.length ≡ 0) × (buffer_after_write n payload buffer ≡ buffer)
 unfolding written_of
-write_kept Unknown payload buffer k = (refl, refl)
-write_kept (Known op) payload buffer k =
+write_kept None payload buffer k = (refl, refl)
+write_kept (Some op) payload buffer k =
     outcome-kept (write_outcome op (length payload) (length buffer)) (encode op payload) buffer k
 
 -- past the length written the buffer is as it was
@@ -248,12 +247,12 @@ outcome-past op payload buffer (Done n) e =
 outcome-past op payload buffer RuleBroken e = refl
 outcome-past op payload buffer BufferTooSmall e = refl
 
-write_past : (n : Named) (payload buffer : List ℕ)
+write_past : (n : Option Operation) (payload buffer : List ℕ)
     → let a = write_answer n (length payload) (length buffer) in
     drop a.length (buffer_after_write n payload buffer) ≡ drop a.length buffer
 unfolding written_of
-write_past Unknown payload buffer = refl
-write_past (Known op) payload buffer = outcome-past op payload buffer (write_outcome op (length payload) (length buffer)) refl
+write_past None payload buffer = refl
+write_past (Some op) payload buffer = outcome-past op payload buffer (write_outcome op (length payload) (length buffer)) refl
 
 wrote_by : (f : FlatOperation) (payload buffer : List ℕ) → TypedFlat f
     → Wrote f payload buffer (write_answer (named f) (length payload) (length buffer)) (buffer_after_write (named f) payload buffer)

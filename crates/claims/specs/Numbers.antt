@@ -1,6 +1,7 @@
 -- Believed. The refusals of each call, a row a number, in the order in which they are tried (01, "Numbers that calls answer with").
 -- Assumes nothing.
-use Rattle.std.specs.Prelude.{ℕ, List, [], ◌∷◌, Bool, true, false, cond, not, ◌&&◌, leb, ltb, eqb, length}
+use Rattle.std.specs.Prelude.{ℕ, List, [], ◌∷◌, Option, Some, None, Bool, true, false, cond, not, ◌&&◌, leb, ltb, eqb, length}
+use Rattle.operation.specs.declared.Operation.{Operation}
 use Rattle.operation.specs.Format.{data_length, length_of}
 use Rattle.operation.specs.Rules.{legal}
 use Rattle.decoder.specs.Stream.{items_of}
@@ -14,8 +15,6 @@ use Rattle.plain_bus.specs.Register.{Register, valid_register, Update, updated, 
 use Rattle.plain_bus.specs.Session.{Call, submission, round, collection}
 use Rattle.bus_state.specs.Memory.{Memory, view, lent_well}
 use Rattle.bus_state.specs.Valid.{valid_state}
-use Rattle.kettlefrost.specs.declared.Named.{Named}
-use Rattle.kettlefrost.specs.declared.Named.TheVariants.{Known, Unknown}
 
 -- a number, and whether it applies. The first that applies is given, and 0 where none does
 abbrev pub Rows : Type 0
@@ -61,16 +60,16 @@ call_rows m c = (1, not (lent_well m)) ∷ (3, not (valid_state m.state m.slots)
 -- ---- writing
 
 -- whether so many data bytes can be written with what a record names: an operation that meets its rules, with as many bytes as it says
-abbrev pub can_write : Named → ℕ → Bool
-can_write Unknown given = false
-can_write (Known op) given = legal op && eqb given (data_length op) && leb given 65_535
+abbrev pub can_write : Option Operation → ℕ → Bool
+can_write None given = false
+can_write (Some op) given = legal op && eqb given (data_length op) && leb given 65_535
 
 -- whether it fits into a buffer of so many bytes
-abbrev pub fits_in : Named → ℕ → Bool
-fits_in Unknown room = true
-fits_in (Known op) room = leb (length_of op) room
+abbrev pub fits_in : Option Operation → ℕ → Bool
+fits_in None room = true
+fits_in (Some op) room = leb (length_of op) room
 
-abbrev pub write_rows : Named → ℕ → ℕ → Rows
+abbrev pub write_rows : Option Operation → ℕ → ℕ → Rows
 write_rows n given room = (7, not (can_write n given)) ∷ (11, not (fits_in n room)) ∷ []
 
 -- ---- the register: the steps of entering are rejected by 12 only, and those of reading by 13

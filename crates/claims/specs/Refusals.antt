@@ -1,6 +1,6 @@
 -- Examples. Numbers that writing and the calls of the bus answer with, by their rows.
 -- Assumes nothing.
-use Rattle.std.specs.Prelude.{ℕ, ◌≡◌, List, [], ◌∷◌, replicate}
+use Rattle.std.specs.Prelude.{ℕ, ◌≡◌, List, [], ◌∷◌, Some, replicate}
 use Rattle.operation.specs.declared.Operation.{Operation}
 use Rattle.operation.specs.declared.Operation.TheVariants.{CanTransmit}
 use Rattle.slots.specs.Slots.{slot_row, free_slot}
@@ -8,12 +8,11 @@ use Rattle.plain_bus.specs.Held.{error_active, buffer_and_retransmit}
 use Rattle.plain_bus.specs.Session.{collection}
 use Rattle.bus_state.specs.Memory.{Memory, held, payload_bytes, queue_bytes}
 use Rattle.bus_state.specs.declared.NodeState.{NodeState}
-use Rattle.kettlefrost.specs.declared.Named.TheVariants.{Known}
 use Rattle.claims.specs.Numbers.{first_row, write_rows, call_rows}
 
 -- writing an operation with so many data bytes to a buffer of so many bytes
 abbrev pub writing_number : Operation → ℕ → ℕ → ℕ
-writing_number op given room = first_row (write_rows (Known op) given room)
+writing_number op given room = first_row (write_rows (Some op) given room)
 
 -- a call of the bus with some state and lent memory: node 1's queue is collected
 abbrev pub collecting_number : Memory → ℕ

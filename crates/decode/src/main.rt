@@ -1,25 +1,26 @@
 // Prints the operations of a collected stream, one a line. `decode FILE` takes a file of at most 65,536 bytes.
 #![tactic(auto)]
 
-mod names;
+mod failure;
 mod report;
 
-ghost use Rattle.std.specs.Prelude.{◌-◌, ◌≤◌, ◌<◌, length, IfOk};
+ghost use Rattle.std.specs.Prelude.{◌≤◌, ◌<◌, length};
 
 use decoder::{Cursor, Reading};
+use failure::Failure;
 use std::env::{Env, FillError};
+use std::fmt::Display;
 use std::fs::File;
 use std::io;
 use std::io::{Read, Stderr, Stdout, Write};
+
+const MAX_STREAM: usize = 65536;
 
 // One byte more than a stream may have: a longer file fills it.
 const BUFFER_LENGTH: usize = 65537;
 
 // Room for any path.
 const PATH_LENGTH: usize = 4096;
-
-// Room for what the system calls an error.
-const WORDS_LENGTH: usize = 128;
 
 // Prints what stands at a position, and gives the position behind it.
 fn print_next(out: Stdout, s: &[u8], at: usize) -> usize
@@ -31,11 +32,11 @@ fn print_next(out: Stdout, s: &[u8], at: usize) -> usize
         Reading::AtEnd => s.len(),
         Reading::Faulty { number, next } => {
             let end = next.at;
-            report::fault(out, at, number, &s[at..end]);
+            report::fault(report::begin(out, at), number, &s[at..end]);
             end
         }
         Reading::Read { op, next } => {
-            report::operation(out, at, op, decoder::data(s, op, next));
+            report::operation(report::begin(out, at), op, decoder::data(s, op, next));
             next.at
         }
     }
@@ -48,109 +49,44 @@ fn print_all(out: Stdout, s: &[u8]) {
     }
 }
 
-// One read into a buffer from a position on.
-fn read_from(file: &mut File, buffer: &mut [u8], at: usize) -> io::Result<usize>
-    ensures { IfOk result (λ n. n ≤ length buffer.new - at) }
-{
-    if buffer.len() <= at {
-        return Ok(0);
-    }
-    file.read(&mut buffer[at..])
+// Reads a file to its end, or until it is longer than a stream may be.
+fn read_stream(file: File, buffer: &mut [u8; BUFFER_LENGTH]) -> Result<&[u8], Failure> {
+    let mut room: &mut [u8] = buffer;
+    let n = io::copy(&mut file.take(BUFFER_LENGTH as u64), &mut room)?;
+    buffer[..MAX_STREAM]
+        .get(..n as usize)
+        .ok_or(Failure::TooLong)
 }
 
-// Reads until the buffer is full or the file ends.
-fn read_all(file: &mut File, buffer: &mut [u8]) -> io::Result<usize> {
-    let mut done = 0;
-    while done < buffer.len() {
-        let n = read_from(file, buffer, done)?;
-        if n == 0 {
-            break;
-        }
-        done += n;
-    }
-    Ok(done)
-}
-
-// All of a text. What a failed write leaves out is not written again.
-fn write(err: Stderr, text: &[u8]) {
-    let _ = err.write_all(text);
-}
-
-// A line to standard error: what failed, a colon and why.
-fn say(err: Stderr, what: &[u8], why: &[u8]) {
-    write(err, what);
-    write(err, b": ");
-    write(err, why);
-    write(err, b"\n");
-}
-
-// How long the system's words are in what an error prints: they end before its number, " (os error 2)".
-fn words_length(text: &[u8]) -> usize
-    ensures { result ≤ length text.now }
-{
-    let mut n = 0;
-    while n < text.len() {
-        if text[n] == 0 || text[n..].starts_with(b" (os error ") {
-            break;
-        }
-        n += 1;
-    }
-    n
-}
-
-fn fail(err: Stderr, what: &[u8], error: io::Error) {
-    let mut words = [0u8; WORDS_LENGTH];
-    let mut rest: &mut [u8] = &mut words;
-    let _ = write!(rest, "{error}");
-    let n = words_length(&words);
-    say(err, what, &words[..n]);
-}
-
-// Prints the first bytes of a buffer that has room for one more than a stream may have.
-fn print_stream(rt: HostRuntime, path: &[u8], buffer: &[u8], length: usize) {
-    if buffer.len() <= length {
-        say(rt.stderr(), path, b"more than 65536 bytes");
-        return;
-    }
-    print_all(rt.stdout(), &buffer[..length]);
-}
-
-fn open(rt: HostRuntime, path: &[u8]) -> io::Result<File> {
-    match str::from_utf8(path) {
-        Ok(path) => File::open(&rt, path),
-        Err(_) => Err(io::Error::new(io::ErrorKind::InvalidInput, "not a name in UTF-8")),
-    }
-}
-
-fn decode(rt: HostRuntime, path: &[u8]) {
-    let mut file = match open(rt, path) {
-        Ok(file) => file,
-        Err(e) => {
-            fail(rt.stderr(), path, e);
-            return;
-        }
-    };
+fn decode(rt: HostRuntime, path: &[u8]) -> Result<(), Failure> {
+    let file = File::open(&rt, str::from_utf8(path)?)?;
+    // Stays: fs::read and read_to_end allocate, and the memory of the programs is fixed.
     let mut buffer = [0u8; BUFFER_LENGTH];
-    match read_all(&mut file, &mut buffer) {
-        Err(e) => fail(rt.stderr(), path, e),
-        Ok(n) => print_stream(rt, path, &buffer, n),
-    }
+    print_all(rt.stdout(), read_stream(file, &mut buffer)?);
+    Ok(())
 }
 
-// Whether the program was given this argument.
-fn has_argument(rt: HostRuntime, i: usize) -> bool {
-    let mut start = [0u8; 1];
-    !matches!(rt.arg(i, &mut start), Err(FillError::NotPresent))
+// A line to standard error: what failed, a colon and why. What a failed write leaves out is not written again.
+fn say<W: Display + Drop>(mut err: Stderr, what: &[u8], why: W) {
+    let _ = err.write_all(what);
+    let _ = writeln!(err, ": {why}");
 }
 
 fn main(rt: HostRuntime) {
-    if !has_argument(rt, 1) || has_argument(rt, 2) {
-        write(rt.stderr(), b"usage: decode FILE\n");
-        return;
-    }
+    // Stays: env::args allocates, and the memory of the programs is fixed.
     let mut path = [0u8; PATH_LENGTH];
-    match rt.arg(1, &mut path) {
-        Ok(n) => decode(rt, &path[..n]),
-        Err(_) => say(rt.stderr(), b"FILE", b"File name too long"),
+    match (rt.arg(1, &mut path), rt.arg(2, &mut [0])) {
+        (Ok(n), Err(FillError::NotPresent)) => {
+            let path = &path[..n];
+            if let Err(failure) = decode(rt, path) {
+                say(rt.stderr(), path, failure);
+            }
+        }
+        (Err(FillError::TooLong), Err(FillError::NotPresent)) => {
+            say(rt.stderr(), b"FILE", "File name too long");
+        }
+        _ => {
+            let _ = eprintln!(rt; "usage: decode FILE");
+        }
     }
 }

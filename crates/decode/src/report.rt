@@ -1,8 +1,9 @@
 // A line for each operation and each fault: position, kind, then the fields by their names.
 // IDs, SDT, VCID, AF and data are in hexadecimal, all other numbers in decimal.
-use crate::names;
 use lines::Line;
-use operation::Operation;
+use operation::{
+    ConfigurationKind, ErrorCode, ErrorFlag, LostBehavior, NodeStatus, NotInTable, Operation,
+};
 use std::io::Stdout;
 
 const POSITION_WIDTH: usize = 6;
@@ -21,133 +22,107 @@ const CONFIGURATION_KIND_END: usize = 58;
 
 const FAULT_END: usize = 53;
 
-// Position and kind.
-fn start(out: Stdout, at: usize, kind: &[u8]) -> Line {
+// A line with its position, ready for a kind.
+pub(crate) fn begin(out: Stdout, at: usize) -> Line {
     Line::new(out)
         .decimal(at as u64, POSITION_WIDTH)
         .column(KIND_COLUMN)
-        .text(kind)
 }
 
-// The same, ready for a first field.
-fn fields(out: Stdout, at: usize, kind: &[u8]) -> Line {
-    start(out, at, kind).column(FIELDS_COLUMN)
+// The parts that operations share.
+trait Fields {
+    // The kind, and up to the first field.
+    fn kind(self, kind: &str) -> Self;
+
+    // An ID that comes without Ide.
+    fn id(self, id: u32) -> Self;
+
+    // The ID and Ide of a Transmit. The ID is as candump shows it: three digits for Ide 0, at the end of the columns of eight for Ide 1.
+    fn identifier(self, id: u32, ide: u8) -> Self;
+
+    // A field of two hexadecimal digits.
+    fn byte(self, name: &str, x: u8) -> Self;
+
+    // A field that is a number of a table, with the standard's name of it. A number outside the table has none.
+    fn named(self, field: &str, x: u32, name: Result<&str, NotInTable>) -> Self;
 }
 
-// A Transmit up to Ide. The ID is as candump shows it: three digits for Ide 0, at the end of the columns of eight for Ide 1.
-fn transmit(out: Stdout, at: usize, kind: &[u8], id: u32, ide: u8) -> Line {
-    let line = fields(out, at, kind).name(b"ID");
-    if ide == 0 {
-        line.text(b"     ").hex(id, 3).number(b"Ide", 0, 1)
-    } else {
-        line.hex(id, 8).number(b"Ide", ide as u32, 1)
+impl Fields for Line {
+    fn kind(self, kind: &str) -> Line {
+        self.text(kind).column(FIELDS_COLUMN)
+    }
+
+    fn id(self, id: u32) -> Line {
+        self.name("ID").hex(id, 8)
+    }
+
+    fn identifier(self, id: u32, ide: u8) -> Line {
+        let line = if ide == 0 {
+            self.name("ID").text("     ").hex(id, 3)
+        } else {
+            self.id(id)
+        };
+        line.number("Ide", ide.into(), 1)
+    }
+
+    fn byte(self, name: &str, x: u8) -> Line {
+        self.name(name).text("0x").hex(x.into(), 2)
+    }
+
+    fn named(self, field: &str, x: u32, name: Result<&str, NotInTable>) -> Line {
+        self.number(field, x, 1).text(" ").text(name.unwrap_or(""))
     }
 }
 
-// An operation up to an ID that comes without Ide.
-fn identified(out: Stdout, at: usize, kind: &[u8], id: u32) -> Line {
-    fields(out, at, kind).name(b"ID").hex(id, 8)
-}
-
-fn format_error(out: Stdout, at: usize, n: u16, data: &[u8]) {
-    fields(out, at, b"Format Error")
-        .number(b"n", n as u32, 1)
-        .bytes(data)
-        .end();
-}
-
-fn can_transmit(out: Stdout, at: usize, id: u32, ide: u8, rtr: u8, dl: u16, data: &[u8]) {
-    transmit(out, at, b"CAN Transmit", id, ide)
-        .number(b"Rtr", rtr as u32, 1)
-        .number(b"DL", dl as u32, 1)
-        .bytes(data)
-        .end();
-}
-
-fn fd_transmit(out: Stdout, at: usize, id: u32, ide: u8, brs: u8, esi: u8, dl: u16, data: &[u8]) {
-    transmit(out, at, b"CAN FD Transmit", id, ide)
-        .number(b"Brs", brs as u32, 1)
-        .number(b"Esi", esi as u32, 1)
-        .number(b"DL", dl as u32, 2)
-        .bytes(data)
-        .end();
-}
-
-fn xl_transmit(
-    out: Stdout,
-    at: usize,
-    id: u32,
-    ide: u8,
-    sec: u8,
-    sdt: u8,
-    vcid: u8,
-    af: u32,
-    dl: u16,
-    data: &[u8],
-) {
-    transmit(out, at, b"CAN XL Transmit", id, ide)
-        .number(b"Sec", sec as u32, 1)
-        .name(b"SDT")
-        .text(b"0x")
-        .hex(u32::from(sdt), 2)
-        .name(b"VCID")
-        .text(b"0x")
-        .hex(u32::from(vcid), 2)
-        .name(b"AF")
-        .text(b"0x")
-        .hex(af, 8)
-        .number(b"DL", dl as u32, 4)
-        .bytes(data)
-        .end();
-}
-
-fn bus_error(out: Stdout, at: usize, id: u32, code: u8, flag: u8, sender: u8) {
-    let line = identified(out, at, b"Bus Error", id)
-        .number(b"Error Code", code as u32, 1)
-        .text(b" ");
-    let line = names::error_code(line, code)
+fn bus_error(line: Line, code: u8, flag: u8, sender: u8) -> Line {
+    let error_code = ErrorCode::try_from(u32::from(code)).map(ErrorCode::name);
+    let error_flag = ErrorFlag::try_from(flag).map(ErrorFlag::name);
+    line.named("Error Code", code.into(), error_code)
         .column(ERROR_CODE_END)
-        .number(b"Error Flag", flag as u32, 1)
-        .text(b" ");
-    names::error_flag(line, flag)
+        .named("Error Flag", flag.into(), error_flag)
         .column(ERROR_FLAG_END)
-        .number(b"Is Sender", sender as u32, 1)
-        .end();
+        .number("Is Sender", sender.into(), 1)
 }
 
-fn configuration(out: Stdout, at: usize, kind: u8, value: u32) {
-    let line = fields(out, at, b"Configuration")
-        .number(b"kind", kind as u32, 1)
-        .text(b" ");
-    let line = names::configuration_kind(line, kind).column(CONFIGURATION_KIND_END);
-    if kind == operation::ARBITRATION_LOST_BEHAVIOR {
-        names::behaviour(line.number(b"behaviour", value, 1).text(b" "), value).end();
+fn configuration(line: Line, kind: u8, value: u32) -> Line {
+    let known = ConfigurationKind::try_from(kind);
+    let line = line
+        .named("kind", kind.into(), known.map(ConfigurationKind::name))
+        .column(CONFIGURATION_KIND_END);
+    if known == Ok(ConfigurationKind::ArbitrationLostBehavior) {
+        let behaviour = LostBehavior::try_from(value).map(LostBehavior::name);
+        line.named("behaviour", value, behaviour)
     } else {
-        line.number(b"baud rate", value, 1).end();
+        line.number("baud rate", value, 1)
     }
 }
 
-fn status(out: Stdout, at: usize, status: u8) {
-    let line = fields(out, at, b"Status")
-        .number(b"status", status as u32, 1)
-        .text(b" ");
-    names::status(line, status).end();
+fn status(line: Line, status: u8) -> Line {
+    let name = NodeStatus::try_from(status).map(NodeStatus::name);
+    line.named("status", status.into(), name)
 }
 
-// The operation at a position, with its data.
-pub(crate) fn operation(out: Stdout, at: usize, op: Operation, data: &[u8]) {
-    match op {
-        Operation::FormatError { n } => format_error(out, at, n, data),
-        Operation::CanTransmit { id, ide, rtr, dl } => can_transmit(
-            out, at, id, ide, rtr, dl, data,
-        ),
+// The operation, with its data.
+pub(crate) fn operation(line: Line, op: Operation, data: &[u8]) {
+    let line = match op {
+        Operation::FormatError { n } => line.kind("Format Error").number("n", n.into(), 1),
+        Operation::CanTransmit { id, ide, rtr, dl } => line
+            .kind("CAN Transmit")
+            .identifier(id, ide)
+            .number("Rtr", rtr.into(), 1)
+            .number("DL", dl.into(), 1),
         Operation::FdTransmit {
             id,
             ide,
             brs,
             esi,
             dl,
-        } => fd_transmit(out, at, id, ide, brs, esi, dl, data),
+        } => line
+            .kind("CAN FD Transmit")
+            .identifier(id, ide)
+            .number("Brs", brs.into(), 1)
+            .number("Esi", esi.into(), 1)
+            .number("DL", dl.into(), 2),
         Operation::XlTransmit {
             id,
             ide,
@@ -156,29 +131,57 @@ pub(crate) fn operation(out: Stdout, at: usize, op: Operation, data: &[u8]) {
             vcid,
             af,
             dl,
-        } => xl_transmit(out, at, id, ide, sec, sdt, vcid, af, dl, data),
-        Operation::Confirm { id } => identified(out, at, b"Confirm", id).end(),
-        Operation::ArbitrationLost { id } => identified(out, at, b"Arbitration Lost", id).end(),
+        } => line
+            .kind("CAN XL Transmit")
+            .identifier(id, ide)
+            .number("Sec", sec.into(), 1)
+            .byte("SDT", sdt)
+            .byte("VCID", vcid)
+            .name("AF")
+            .text("0x")
+            .hex(af, 8)
+            .number("DL", dl.into(), 4),
+        Operation::Confirm { id } => line.kind("Confirm").id(id),
+        Operation::ArbitrationLost { id } => line.kind("Arbitration Lost").id(id),
         Operation::BusError {
             id,
             error_code,
             error_flag,
             is_sender,
-        } => bus_error(out, at, id, error_code, error_flag, is_sender),
-        Operation::Configuration { kind, value } => configuration(out, at, kind, value),
-        Operation::Status { status: value } => status(out, at, value),
-        Operation::Wakeup => start(out, at, b"Wakeup").end(),
+        } => bus_error(
+            line.kind("Bus Error").id(id),
+            error_code,
+            error_flag,
+            is_sender,
+        ),
+        Operation::Configuration { kind, value } => {
+            configuration(line.kind("Configuration"), kind, value)
+        }
+        Operation::Status { status: x } => status(line.kind("Status"), x),
+        Operation::Wakeup => line.text("Wakeup"),
+    };
+    line.bytes(data).end();
+}
+
+// What a fault is, in a few words.
+fn words(number: u8) -> &'static str {
+    match number {
+        1 => "fewer than 8 bytes remain",
+        2 => "length below 8 or past end",
+        3 => "unknown code",
+        4 => "length not that of its kind",
+        5 => "content rule broken",
+        _ => "",
     }
 }
 
-// The fault at a position, with its bytes.
-pub(crate) fn fault(out: Stdout, at: usize, number: u8, bytes: &[u8]) {
-    let line = start(out, at, b"fault")
-        .text(b" ")
-        .decimal(number as u64, 1)
+// The fault, with its bytes.
+pub(crate) fn fault(line: Line, number: u8, bytes: &[u8]) {
+    line.text("fault ")
+        .decimal(number.into(), 1)
         .column(FIELDS_COLUMN)
-        .text(b"  ");
-    names::fault(line, number)
+        .text("  ")
+        .text(words(number))
         .column(FAULT_END)
         .bytes(bytes)
         .end();

@@ -1,6 +1,7 @@
 -- Believed. What the calls for C answer, from what the calls of the library answer.
 -- Assumes nothing.
-use Rattle.std.specs.Prelude.{ℕ, ◌-◌, List, cond, eqb, length}
+use Rattle.std.specs.Prelude.{ℕ, ◌-◌, List, Option, Some, None, cond, eqb, length}
+use Rattle.operation.specs.declared.Operation.{Operation}
 use Rattle.decoder.specs.Reading.{data_at}
 use Rattle.decoder.specs.declared.Reading.{Reading}
 use Rattle.decoder.specs.declared.Reading.TheVariants.{AtEnd, Faulty, Read}
@@ -11,8 +12,6 @@ use Rattle.kettlefrost.specs.Flat.{flat, blank}
 use Rattle.kettlefrost.specs.declared.ReadAnswer.{ReadAnswer}
 use Rattle.kettlefrost.specs.declared.PartAnswer.{PartAnswer}
 use Rattle.kettlefrost.specs.declared.WriteAnswer.{WriteAnswer}
-use Rattle.kettlefrost.specs.declared.Named.{Named}
-use Rattle.kettlefrost.specs.declared.Named.TheVariants.{Known, Unknown}
 
 abbrev pub no_operation : ℕ → ℕ → ℕ → ReadAnswer
 no_operation end fault next = record { end = end; fault = fault; next = next; operation = blank }
@@ -28,9 +27,9 @@ abbrev pub part_of : List ℕ → ℕ → PartAnswer
 part_of bytes end =
     cond (eqb (length bytes) 0) (record { start = 0; length = 0 }) (record { start = end - length bytes; length = length bytes })
 
-abbrev pub data_answer : List ℕ → Named → ℕ → PartAnswer
-data_answer s Unknown end = record { start = 0; length = 0 }
-data_answer s (Known op) end = part_of (data_at s op end) end
+abbrev pub data_answer : List ℕ → Option Operation → ℕ → PartAnswer
+data_answer s None end = record { start = 0; length = 0 }
+data_answer s (Some op) end = part_of (data_at s op end) end
 
 -- the number of 01, and the length written; 0 where it was refused
 abbrev pub length_written : Written → ℕ
@@ -39,14 +38,14 @@ length_written RuleBroken = 0
 length_written BufferTooSmall = 0
 
 -- an unknown code breaks a rule
-abbrev pub answer_named : Named → ℕ → ℕ → Written
-answer_named Unknown given room = RuleBroken
-answer_named (Known op) given room = write_outcome op given room
+abbrev pub answer_named : Option Operation → ℕ → ℕ → Written
+answer_named None given room = RuleBroken
+answer_named (Some op) given room = write_outcome op given room
 
-abbrev pub write_answer : Named → ℕ → ℕ → WriteAnswer
+abbrev pub write_answer : Option Operation → ℕ → ℕ → WriteAnswer
 write_answer n given room =
     let w = answer_named n given room in record { refusal = written_number w; length = length_written w }
 
-abbrev pub buffer_after_write : Named → List ℕ → List ℕ → List ℕ
-buffer_after_write Unknown payload buffer = buffer
-buffer_after_write (Known op) payload buffer = written_of op payload buffer
+abbrev pub buffer_after_write : Option Operation → List ℕ → List ℕ → List ℕ
+buffer_after_write None payload buffer = buffer
+buffer_after_write (Some op) payload buffer = written_of op payload buffer

@@ -1,13 +1,11 @@
 -- Believed. An operation as a record of plain numbers, for callers in C: its code and its fields in the order of 01's table, 0 where its
 -- kind has no such field.
 -- Assumes nothing.
-use Rattle.std.specs.Prelude.{ℕ}
+use Rattle.std.specs.Prelude.{ℕ, Option, Some, None}
 use Rattle.operation.specs.declared.Operation.{Operation}
 use Rattle.operation.specs.declared.Operation.TheVariants.{FormatError, CanTransmit, FdTransmit, XlTransmit, Confirm, ArbitrationLost, BusError, Configuration, Status, Wakeup}
 use Rattle.decoder.specs.Front.{Kind, format_error, can, fd, xl, confirm, arbitration_lost, bus_error, configuration, status, wakeup, unknown, kind_of}
 use Rattle.kettlefrost.specs.declared.FlatOperation.{FlatOperation}
-use Rattle.kettlefrost.specs.declared.Named.{Named}
-use Rattle.kettlefrost.specs.declared.Named.TheVariants.{Known, Unknown}
 
 abbrev pub flat_row : (code id word length first second third fourth : ℕ) → FlatOperation
 flat_row code id word length first second third fourth = record {
@@ -39,18 +37,18 @@ abbrev pub blank : FlatOperation
 blank = flat_row 0 0 0 0 0 0 0 0
 
 -- the operation that a record names, by its code; fields that the kind does not have are not looked at
-abbrev pub by_kind : Kind → FlatOperation → Named
-by_kind format_error f = Known (FormatError f.length)
-by_kind can f = Known (CanTransmit f.id f.first f.second f.length)
-by_kind fd f = Known (FdTransmit f.id f.first f.second f.third f.length)
-by_kind xl f = Known (XlTransmit f.id f.first f.second f.third f.fourth f.word f.length)
-by_kind confirm f = Known (Confirm f.id)
-by_kind arbitration_lost f = Known (ArbitrationLost f.id)
-by_kind bus_error f = Known (BusError f.id f.first f.second f.third)
-by_kind configuration f = Known (Configuration f.first f.word)
-by_kind status f = Known (Status f.first)
-by_kind wakeup f = Known Wakeup
-by_kind unknown f = Unknown
+abbrev pub by_kind : Kind → FlatOperation → Option Operation
+by_kind format_error f = Some (FormatError f.length)
+by_kind can f = Some (CanTransmit f.id f.first f.second f.length)
+by_kind fd f = Some (FdTransmit f.id f.first f.second f.third f.length)
+by_kind xl f = Some (XlTransmit f.id f.first f.second f.third f.fourth f.word f.length)
+by_kind confirm f = Some (Confirm f.id)
+by_kind arbitration_lost f = Some (ArbitrationLost f.id)
+by_kind bus_error f = Some (BusError f.id f.first f.second f.third)
+by_kind configuration f = Some (Configuration f.first f.word)
+by_kind status f = Some (Status f.first)
+by_kind wakeup f = Some Wakeup
+by_kind unknown f = None
 
-unfoldable pub named : FlatOperation → Named
+unfoldable pub named : FlatOperation → Option Operation
 named f = by_kind (kind_of f.code) f

@@ -12,13 +12,13 @@ ghost use Rattle.bus_model.specs.Primitives.{new_state};
 ghost use Rattle.bus_model.specs.Calls.{start_in, submit_in, round_in, collect_in, buffer_after};
 ghost use Rattle.plain_bus.specs.Round.{injection_from};
 ghost use Rattle.bus.specs.Left.{left, leaves};
-ghost use Rattle.kettlefrost.specs.Flat.{flat_row, flat, named};
+ghost use Rattle.kettlefrost.specs.Flat.{flat, named};
 ghost use Rattle.kettlefrost.specs.Calls.{no_operation, read_answer, data_answer, length_written, answer_named, write_answer, buffer_after_write};
 
 use bus_state::State;
 use decoder::{Cursor, Front};
 use encoder::Written;
-use operation::Operation;
+use operation::{Code, Operation};
 use outcome::Answer;
 use slots::Slot;
 
@@ -60,117 +60,157 @@ pub struct WriteAnswer {
     pub length: usize,
 }
 
-// The operation that a record names.
-#[derive(Clone, Copy)]
-pub enum Named {
-    Known(Operation),
-    Unknown,
-}
+// The record of no operation, and what a kind has no field for.
+const BLANK: FlatOperation = FlatOperation {
+    code: 0,
+    id: 0,
+    word: 0,
+    length: 0,
+    first: 0,
+    second: 0,
+    third: 0,
+    fourth: 0,
+};
 
-// One row of the table of kinds.
-fn row(
-    code: u32,
-    id: u32,
-    word: u32,
-    length: u16,
-    first: u8,
-    second: u8,
-    third: u8,
-    fourth: u8,
-) -> FlatOperation
-    ensures { result ≡ flat_row code id word length first second third fourth }
-{
-    FlatOperation {
-        code,
-        id,
-        word,
-        length,
-        first,
-        second,
-        third,
-        fourth,
+impl From<Operation> for FlatOperation {
+    ghost from_gives = { λ op f. f ≡ flat op };
+
+    fn from(op: Operation) -> FlatOperation {
+        match op {
+            Operation::FormatError { n } => FlatOperation {
+                code: Code::FormatError as u32,
+                length: n,
+                ..BLANK
+            },
+            Operation::CanTransmit { id, ide, rtr, dl } => FlatOperation {
+                code: Code::CanTransmit as u32,
+                id,
+                length: dl,
+                first: ide,
+                second: rtr,
+                ..BLANK
+            },
+            Operation::FdTransmit {
+                id,
+                ide,
+                brs,
+                esi,
+                dl,
+            } => FlatOperation {
+                code: Code::FdTransmit as u32,
+                id,
+                length: dl,
+                first: ide,
+                second: brs,
+                third: esi,
+                ..BLANK
+            },
+            Operation::XlTransmit {
+                id,
+                ide,
+                sec,
+                sdt,
+                vcid,
+                af,
+                dl,
+            } => FlatOperation {
+                code: Code::XlTransmit as u32,
+                id,
+                word: af,
+                length: dl,
+                first: ide,
+                second: sec,
+                third: sdt,
+                fourth: vcid,
+            },
+            Operation::Confirm { id } => FlatOperation {
+                code: Code::Confirm as u32,
+                id,
+                ..BLANK
+            },
+            Operation::ArbitrationLost { id } => FlatOperation {
+                code: Code::ArbitrationLost as u32,
+                id,
+                ..BLANK
+            },
+            Operation::BusError {
+                id,
+                error_code,
+                error_flag,
+                is_sender,
+            } => FlatOperation {
+                code: Code::BusError as u32,
+                id,
+                first: error_code,
+                second: error_flag,
+                third: is_sender,
+                ..BLANK
+            },
+            Operation::Configuration { kind, value } => FlatOperation {
+                code: Code::Configuration as u32,
+                word: value,
+                first: kind,
+                ..BLANK
+            },
+            Operation::Status { status } => FlatOperation {
+                code: Code::Status as u32,
+                first: status,
+                ..BLANK
+            },
+            Operation::Wakeup => FlatOperation {
+                code: Code::Wakeup as u32,
+                ..BLANK
+            },
+        }
     }
 }
 
-fn flatten(op: Operation) -> FlatOperation
-    ensures { result ≡ flat op }
-{
-    match op {
-        Operation::FormatError { n } => row(0x01, 0, 0, n, 0, 0, 0, 0),
-        Operation::CanTransmit { id, ide, rtr, dl } => row(0x10, id, 0, dl, ide, rtr, 0, 0),
-        Operation::FdTransmit {
-            id,
-            ide,
-            brs,
-            esi,
-            dl,
-        } => row(0x11, id, 0, dl, ide, brs, esi, 0),
-        Operation::XlTransmit {
-            id,
-            ide,
-            sec,
-            sdt,
-            vcid,
-            af,
-            dl,
-        } => row(0x12, id, af, dl, ide, sec, sdt, vcid),
-        Operation::Confirm { id } => row(0x20, id, 0, 0, 0, 0, 0, 0),
-        Operation::ArbitrationLost { id } => row(0x30, id, 0, 0, 0, 0, 0, 0),
-        Operation::BusError {
-            id,
-            error_code,
-            error_flag,
-            is_sender,
-        } => row(0x31, id, 0, 0, error_code, error_flag, is_sender, 0),
-        Operation::Configuration { kind, value } => row(0x40, 0, value, 0, kind, 0, 0, 0),
-        Operation::Status { status } => row(0x41, 0, 0, 0, status, 0, 0, 0),
-        Operation::Wakeup => row(0x42, 0, 0, 0, 0, 0, 0, 0),
-    }
-}
-
-fn operation_of(f: FlatOperation) -> Named
-    ensures { result ≡ named f }
-{
-    let code = f.code;
-    match code {
-        0x01 => Named::Known(Operation::FormatError { n: f.length }),
-        0x10 => Named::Known(Operation::CanTransmit {
-            id: f.id,
-            ide: f.first,
-            rtr: f.second,
-            dl: f.length,
-        }),
-        0x11 => Named::Known(Operation::FdTransmit {
-            id: f.id,
-            ide: f.first,
-            brs: f.second,
-            esi: f.third,
-            dl: f.length,
-        }),
-        0x12 => Named::Known(Operation::XlTransmit {
-            id: f.id,
-            ide: f.first,
-            sec: f.second,
-            sdt: f.third,
-            vcid: f.fourth,
-            af: f.word,
-            dl: f.length,
-        }),
-        0x20 => Named::Known(Operation::Confirm { id: f.id }),
-        0x30 => Named::Known(Operation::ArbitrationLost { id: f.id }),
-        0x31 => Named::Known(Operation::BusError {
-            id: f.id,
-            error_code: f.first,
-            error_flag: f.second,
-            is_sender: f.third,
-        }),
-        0x40 => Named::Known(Operation::Configuration {
-            kind: f.first,
-            value: f.word,
-        }),
-        0x41 => Named::Known(Operation::Status { status: f.first }),
-        0x42 => Named::Known(Operation::Wakeup),
-        _ => Named::Unknown,
+impl FlatOperation {
+    // The operation that the record names, by its code; fields that its kind does not have are not looked at.
+    #[tactic(auto, using(crate::proofs::Tables::named_by))]
+    fn operation(self) -> Option<Operation>
+        ensures { result ≡ named self }
+    {
+        let code = Code::try_from(self.code).ok()?;
+        Some(match code {
+            Code::FormatError => Operation::FormatError { n: self.length },
+            Code::CanTransmit => Operation::CanTransmit {
+                id: self.id,
+                ide: self.first,
+                rtr: self.second,
+                dl: self.length,
+            },
+            Code::FdTransmit => Operation::FdTransmit {
+                id: self.id,
+                ide: self.first,
+                brs: self.second,
+                esi: self.third,
+                dl: self.length,
+            },
+            Code::XlTransmit => Operation::XlTransmit {
+                id: self.id,
+                ide: self.first,
+                sec: self.second,
+                sdt: self.third,
+                vcid: self.fourth,
+                af: self.word,
+                dl: self.length,
+            },
+            Code::Confirm => Operation::Confirm { id: self.id },
+            Code::ArbitrationLost => Operation::ArbitrationLost { id: self.id },
+            Code::BusError => Operation::BusError {
+                id: self.id,
+                error_code: self.first,
+                error_flag: self.second,
+                is_sender: self.third,
+            },
+            Code::Configuration => Operation::Configuration {
+                kind: self.first,
+                value: self.word,
+            },
+            Code::Status => Operation::Status { status: self.first },
+            Code::Wakeup => Operation::Wakeup,
+        })
     }
 }
 
@@ -178,12 +218,11 @@ fn operation_of(f: FlatOperation) -> Named
 fn no_operation(end: u32, fault: u32, next: usize) -> ReadAnswer
     ensures { result ≡ no_operation end fault next }
 {
-    let operation = row(0, 0, 0, 0, 0, 0, 0, 0);
     ReadAnswer {
         end,
         fault,
         next,
-        operation,
+        operation: BLANK,
     }
 }
 
@@ -195,15 +234,12 @@ fn answer_front(at: usize, f: Front) -> ReadAnswer
     match f {
         Front::End => no_operation(1, 0, at),
         Front::Fault { number, size } => no_operation(0, number as u32, at + size),
-        Front::Found { op, size } => {
-            let operation = flatten(op);
-            ReadAnswer {
-                end: 0,
-                fault: 0,
-                next: at + size,
-                operation,
-            }
-        }
+        Front::Found { op, size } => ReadAnswer {
+            end: 0,
+            fault: 0,
+            next: at + size,
+            operation: op.into(),
+        },
     }
 }
 
@@ -247,8 +283,8 @@ pub fn kf_read(buffer: &[u8], at: usize) -> ReadAnswer
 pub fn kf_data(buffer: &[u8], operation: FlatOperation, next: usize) -> PartAnswer
     ensures { result ≡ data_answer buffer.now (named operation) next }
 {
-    match operation_of(operation) {
-        Named::Known(op) => {
+    match operation.operation() {
+        Some(op) => {
             let n = decoder::data(buffer, op, Cursor { at: next }).len();
             if n == 0 {
                 return PartAnswer {
@@ -261,7 +297,7 @@ pub fn kf_data(buffer: &[u8], operation: FlatOperation, next: usize) -> PartAnsw
                 length: n,
             }
         }
-        Named::Unknown => PartAnswer {
+        None => PartAnswer {
             start: 0,
             length: 0,
         },
@@ -279,25 +315,33 @@ fn length_written(w: Written) -> usize
 }
 
 // Writes by the code: no operation is built on the way.
+#[tactic(auto, using(crate::proofs::Tables::named_by))]
 fn write_named(f: FlatOperation, payload: &[u8], buffer: &mut [u8]) -> Written
     ensures answer { result ≡ answer_named (named f) (length payload.now) (length buffer.old) }
     ensures written { buffer.new ≡ buffer_after_write (named f) payload.now buffer.old }
 {
-    let code = f.code;
+    let Ok(code) = Code::try_from(f.code) else {
+        return Written::RuleBroken;
+    };
     match code {
-        0x01 => encoder::write_format_error(f.length, payload, buffer),
-        0x10 => encoder::write_can(f.id, f.first, f.second, f.length, payload, buffer),
-        0x11 => encoder::write_fd(f.id, f.first, f.second, f.third, f.length, payload, buffer),
-        0x12 => encoder::write_xl(
+        Code::FormatError => encoder::write_format_error(f.length, payload, buffer),
+        Code::CanTransmit => {
+            encoder::write_can(f.id, f.first, f.second, f.length, payload, buffer)
+        }
+        Code::FdTransmit => encoder::write_fd(
+            f.id, f.first, f.second, f.third, f.length, payload, buffer,
+        ),
+        Code::XlTransmit => encoder::write_xl(
             f.id, f.first, f.second, f.third, f.fourth, f.word, f.length, payload, buffer,
         ),
-        0x20 => encoder::write_confirm(f.id, payload, buffer),
-        0x30 => encoder::write_arbitration_lost(f.id, payload, buffer),
-        0x31 => encoder::write_bus_error(f.id, f.first, f.second, f.third, payload, buffer),
-        0x40 => encoder::write_configuration(f.first, f.word, payload, buffer),
-        0x41 => encoder::write_status(f.first, payload, buffer),
-        0x42 => encoder::write_wakeup(payload, buffer),
-        _ => Written::RuleBroken,
+        Code::Confirm => encoder::write_confirm(f.id, payload, buffer),
+        Code::ArbitrationLost => encoder::write_arbitration_lost(f.id, payload, buffer),
+        Code::BusError => {
+            encoder::write_bus_error(f.id, f.first, f.second, f.third, payload, buffer)
+        }
+        Code::Configuration => encoder::write_configuration(f.first, f.word, payload, buffer),
+        Code::Status => encoder::write_status(f.first, payload, buffer),
+        Code::Wakeup => encoder::write_wakeup(payload, buffer),
     }
 }
 

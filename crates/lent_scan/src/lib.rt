@@ -9,6 +9,7 @@ ghost use Rattle.outcome.specs.Outcome.{answer_of};
 
 use bus_state::State;
 use outcome::{Answer, Change};
+use scan::Run;
 use slots::Slot;
 
 // The key with n frames of node j.
@@ -16,24 +17,23 @@ fn frames_key(slots: &[Slot; 32], key: u64, n: usize, j: usize, round: u32) -> u
     requires { (n ≤ 4) × (j < 8) }
     ensures { result ≡ frames_key n j round slots.now key }
 {
-    let mut run = scan::begin(key);
+    let mut run = Run::begin(key);
     let first = 4 * j;
     for p in first..first + n {
-        run = scan::step(run, slots[p], j, p);
+        run = run.step(slots[p], j, p);
     }
-    scan::key_of(run, round)
+    run.end(round)
 }
 
 // The key of a state with its slots: 0 where they are not valid (01: not sound), else the winner's.
 pub fn scan(slots: &[Slot; 32], s: State) -> u64
     ensures { result ≡ scanned s slots.now }
 {
-    let round = scan::round_of(s);
-    let nodes = scan::entries_of(s);
+    let nodes = s.nodes;
     let mut key = scan::first_key(s);
     for j in 0..scan::attached(s) {
         let d = nodes[j];
-        key = frames_key(slots, scan::entry_key(d, key), scan::frame_count(d), j, round);
+        key = frames_key(slots, scan::entry_key(d, key), scan::frame_count(d), j, s.round);
     }
     key
 }

@@ -2,7 +2,7 @@
 #![tactic(auto, using(crate::proofs::Gaining::gaining))]
 
 ghost use Rattle.std.specs.Prelude.{◌≡◌, [], ◌-◌, ◌<◌, length};
-ghost use Rattle.lines.specs.Text.{after, after_all, blanks, hex_digit, hex_digits, apart, hex_bytes, field, named, GainsNumber};
+ghost use Rattle.lines.specs.Text.{after, after_all, blanks, hex_digit, hex_digits, hex_bytes, field, named, GainsNumber};
 
 use arrayvec::ArrayVec;
 use std::convert::AsSlice;
@@ -27,6 +27,7 @@ impl Model for Line {
 }
 
 // The hexadecimal digit of a number.
+// Stays: the library's are in lower case (char::from_digit, io::hex).
 fn digit(d: u8) -> u8
     requires { d < 16 }
     ensures { result ≡ hex_digit d }
@@ -92,43 +93,43 @@ impl Line {
     pub fn decimal(self, x: u64, width: usize) -> Self
         ensures { GainsNumber self result [] x width }
     {
+        // Stays: write! promises its text on Ok alone (GainsNumber).
         let mut digits = [0u8; 20];
         let n = io::decimal(x, &mut digits);
         self.fill(width.saturating_sub(n)).text(&digits[..n])
     }
 
     // As many of a number's last digits, in hexadecimal.
-    pub fn hex(self, x: u32, digits: usize) -> Self
-        ensures { result ≡ after_all self (hex_digits digits x) }
+    fn put_hex(&mut self, x: u32, digits: usize)
+        ensures { self.new ≡ after_all self.old (hex_digits digits x) }
     {
-        if digits == 0 {
-            return self;
+        if digits > 0 {
+            self.put_hex(x / 16, digits - 1);
+            self.put(digit((x % 16) as u8));
         }
-        let mut line = self.hex(x / 16, digits - 1);
-        line.put(digit((x % 16) as u8));
-        line
     }
 
-    // Bytes, two digits each, one blank before each.
-    fn apart(self, bytes: &[u8]) -> Self
-        ensures { result ≡ after_all self (apart bytes.now) }
+    // The same.
+    pub fn hex(mut self, x: u32, digits: usize) -> Self
+        ensures { result ≡ after_all self (hex_digits digits x) }
     {
-        let mut line = self;
-        for &byte in bytes {
-            line.put(b' ');
-            line = line.hex(u32::from(byte), 2);
-        }
-        line
+        self.put_hex(x, digits);
+        self
     }
 
     // Bytes, two digits each, one blank between.
-    pub fn hex_bytes(self, bytes: &[u8]) -> Self
+    pub fn hex_bytes(mut self, bytes: &[u8]) -> Self
         ensures { result ≡ after_all self (hex_bytes bytes.now) }
     {
-        match bytes.split_first() {
-            Some((&first, rest)) => self.hex(u32::from(first), 2).apart(rest),
-            None => self,
+        let Some((&first, rest)) = bytes.split_first() else {
+            return self;
+        };
+        self.put_hex(u32::from(first), 2);
+        for &byte in rest {
+            self.put(b' ');
+            self.put_hex(u32::from(byte), 2);
         }
+        self
     }
 
     // Bytes behind two blanks; nothing where there are none.

@@ -1,118 +1,144 @@
--- Laws of the open IDs of a register: the first count of its array, one at a time.
+-- What the plain register's lists are in the words of the library: what is valid, closed and handed back.
 -- Assumes nothing.
-use mathlib.Core.Path.{◌≡◌, refl, sym, ap, ◌∙◌}
-use mathlib.Core.Bool.{Bool, true, false, not, ◌&&◌, ◌||◌}
-use mathlib.Core.List.{List, [], ◌∷◌, ◌++◌, append-nil, append_assoc}
-use Prim.Native.Nat.{ℕ, suc, ◌+◌, ◌-◌, ◌≤◌, ◌<◌}
-use native.Mathlib.Omega.{arith}
-use native.Mathlib.Numerals.{add-one}
-use lib.Dec.{eqb, leb}
-use lib.ListN.{length, take, drop, get_or, set, length-append, length-take, length-replicate}
-use lib.Seq.{length-take-le, drop-cons, drop-length, take-suc-set, drop-set-lt, take-set-lt, take-take, get_or-take}
-use borrow.Author.Tests.{lt-leb, le-leb, eq-eqb, ne_eqb, leb-true}
+use Rattle.std.proofs.Common.{ℕ, suc, ◌+◌, ◌-◌, ◌≤◌, ◌<◌, add-one, arith, rules}
+use Rattle.std.proofs.Common.{Bool, true, false, not, cond, ◌||◌, ◌&&◌, eqb, leb, ltb, ◌==◌, Some, None}
+use Rattle.std.proofs.Common.{List, [], ◌∷◌, ◌++◌, append-nil, length, take, drop, length-append, length-take, length-drop}
+use Rattle.std.proofs.Common.{◌≡◌, refl, sym, ◌∙◌}
+use Rattle.std.proofs.lemmas.Bool.Decides.{nat_tests}
+use Rattle.std.proofs.lemmas.Grind.{common_steps}
+use Rattle.std.proofs.lemmas.List.{length-replicate}
+use Rattle.std.proofs.lemmas.List.Edits.{take-paste}
+use Rattle.std.proofs.lemmas.Slice.{between_is}
+use Rattle.std.proofs.Math.ListN.{replicate}
+use Rattle.std.proofs.Math.Seq.{length-take-le, take-take}
+use Rattle.std.specs.List.{position, position_or_len, list_all, copy_within}
+use mir.Val.{bool_byte}
+use borrow.Rule.Slice.PartMut.{put_mid}
+use borrow.Author.Tests.{lt-leb, le-leb, leb-true, leb-false}
 use Rattle.operation.specs.Rules.{max_extended_id}
+use Rattle.plain_bus.specs.Refusal.{register_differs}
 use Rattle.plain_bus.specs.Register as plain
 use Rattle.open_frames.specs.Record.{open_in}
-use Rattle.open_frames.specs.Steps.{place_of}
 use Rattle.open_frames.specs.declared.Register.{Register}
 
-abbrev pub kept : List ℕ → ℕ → ℕ → plain.Register
-kept ids count off = record { opened = take count ids; off = not (eqb off 0) }
+-- ---- validity
 
--- up to the largest count, all open IDs lie in the array
-pub within : (r : Register) → r.count ≤ 345 → open_in r ≡ kept r.ids r.count r.off
-unfolding open_in
-within r h =
-    let e : r.count - 345 ≡ 0 = omega arith in
-    rw (e, append-nil (take r.count r.ids))
+all_below : (limit : ℕ) (l : List ℕ) → plain.none_above limit l ≡ list_all (λ x. leb x limit) l
+unfolding plain.none_above
+all_below limit [] = refl
+all_below limit (x ∷ xs) = rw (all_below limit xs)
 
-pub length-opened : (r : Register) → length r.ids ≡ 345 → length (open_in r).opened ≡ r.count
-unfolding open_in
-length-opened r h = simp (length-append, length-take, length-replicate) (omega arith)
+module _ (r : Register) (k : length r.ids ≡ 345) where
+  length-opened : length (open_in r).opened ≡ r.count
+  unfolding open_in
+  length-opened = simp (length-append, length-take, length-replicate) (omega arith)
 
-pub too_many : (r : Register) → length r.ids ≡ 345 → 345 < r.count → plain.valid_register (open_in r) ≡ false
-unfolding plain.valid_register
-too_many r h g = rw (length-opened r h, lt-leb r.count 345 g)
+  pub too_many : 345 < r.count → plain.valid_register (open_in r) ≡ false
+  unfolding plain.valid_register
+  too_many g = rw (length-opened, lt-leb r.count 345 g)
 
--- the open IDs from a place on
-module _ (ids : List ℕ) (n : ℕ) (fits : n ≤ length ids) where
-  pub from : (i : ℕ) → i < n → drop i (take n ids) ≡ get_or ids i 0 ∷ drop (suc i) (take n ids)
-  from i h =
-      let l : length (take n ids) ≡ n = length-take-le n ids fits in
-      let g : i < length (take n ids) = omega arith in
-      drop-cons (take n ids) i 0 g ∙ ap (λ (x : ℕ). x ∷ drop (suc i) (take n ids)) (get_or-take n ids i 0 h)
+  -- a valid register has room for all that it counts
+  pub room : plain.valid_register (open_in r) ≡ true → r.count ≤ 345
+  room e = go (leb r.count 345) refl
+    where
+      go : (t : Bool) → leb r.count 345 ≡ t → r.count ≤ 345
+      go true q = leb-true r.count 345 q
+      go false q = let z = sym e ∙ too_many (leb-false r.count 345 q) in cc
 
-  pub from_end : drop n (take n ids) ≡ []
-  from_end = rw (length-take-le n ids fits) at (drop-length (take n ids))
+  module _ (h : r.count ≤ 345) where
+    -- so all open IDs lie in the array
+    pub within : open_in r ≡ record { opened = take r.count r.ids; off = not (eqb r.off 0) }
+    unfolding open_in
+    within =
+        let e : r.count - 345 ≡ 0 = omega arith in
+        rw (e, append-nil (take r.count r.ids))
 
-  pub above_here : (i : ℕ) → i < n → max_extended_id < get_or ids i 0 → plain.none_above max_extended_id (drop i (take n ids)) ≡ false
-  unfolding plain.none_above
-  above_here i h g = rw (from i h, lt-leb (get_or ids i 0) max_extended_id g)
+    pub validity : plain.valid_register (open_in r)
+        ≡ (list_all (λ x. leb x max_extended_id) (take r.count r.ids) && (eqb r.off 0 || eqb r.count 0))
+    unfolding plain.valid_register
+    validity =
+        rw (within, length-take-le r.count r.ids (omega arith), le-leb r.count 345 h, all_below max_extended_id (take r.count r.ids))
+        (go (eqb r.off 0))
+      where
+        go : (t : Bool) → (list_all (λ x. leb x max_extended_id) (take r.count r.ids) && (not (not t) || eqb r.count 0))
+            ≡ (list_all (λ x. leb x max_extended_id) (take r.count r.ids) && (t || eqb r.count 0))
+        go true = refl
+        go false = refl
 
-  pub above_later : (i : ℕ) → i < n → get_or ids i 0 ≤ max_extended_id
-      → plain.none_above max_extended_id (drop i (take n ids)) ≡ plain.none_above max_extended_id (drop (suc i) (take n ids))
-  unfolding plain.none_above
-  above_later i h g = rw (from i h, le-leb (get_or ids i 0) max_extended_id g)
+pub ruleset valid = (too_many, validity)
 
-  pub above_none : plain.none_above max_extended_id (drop n (take n ids)) ≡ true
-  unfolding plain.none_above
-  above_none = rw from_end
+pub ruleset made = (room, within)
 
-  pub place_here : (id i : ℕ) → i < n → get_or ids i 0 ≡ id → i + place_of id (drop i (take n ids)) ≡ i
-  unfolding place_of
-  place_here id i h g = rw (from i h, eq-eqb (get_or ids i 0) id g) (omega arith)
+-- ---- closing
 
-  pub place_later : (id i : ℕ) → i < n → (get_or ids i 0 ≡ id → ⊥)
-      → i + place_of id (drop i (take n ids)) ≡ suc i + place_of id (drop (suc i) (take n ids))
-  unfolding place_of
-  place_later id i h g = rw (from i h, ne_eqb (get_or ids i 0) id g) (omega arith)
+-- where the first equal ID is, and the list's length where there is none
+abbrev place_of : ℕ → List ℕ → ℕ
+place_of id l = position_or_len (λ x. x == id) l
 
-  pub place_none : (id : ℕ) → n + place_of id (drop n (take n ids)) ≡ n
-  unfolding place_of
-  place_none id = rw from_end (omega arith)
+found : (id : ℕ) (l : List ℕ) → plain.is_open id l ≡ ltb (place_of id l) (length l)
+unfolding plain.is_open
+found id [] = refl
+found id (x ∷ xs) = rw (found id xs) (go (eqb x id))
+  where
+    go : (t : Bool) → (t || ltb (place_of id xs) (length xs)) ≡ ltb (cond (not t) (1 + place_of id xs) 0) (suc (length xs))
+    go true = grind (arith, nat_tests)
+    go false = grind (arith, nat_tests)
 
 -- without the entry at a place
-abbrev pub cut : ℕ → List ℕ → List ℕ
+abbrev cut : ℕ → List ℕ → List ℕ
 cut i l = take i l ++ drop (suc i) l
 
--- the entry behind it moves down: now that one is to be cut
-pub moved : (ids : List ℕ) (n i : ℕ) → n ≤ length ids → i + 1 < n
-    → cut (i + 1) (take n (set ids i (get_or ids (i + 1) 0))) ≡ cut i (take n ids)
-moved ids n i fits h =
-    let l = take n ids in
-    let k : length l ≡ n = length-take-le n ids fits in
-    let g : i < length l = omega arith in
-    let g' : suc i < length l = omega arith in
-    rw (add-one i, take-set-lt n ids i (get_or ids (suc i) 0) (omega arith), sym (get_or-take n ids (suc i) 0 (omega arith)), take-suc-set l i (get_or l (suc i) 0) g, drop-set-lt (suc (suc i)) l i (get_or l (suc i) 0) (omega arith), append_assoc (take i l) (get_or l (suc i) 0 ∷ []) (drop (suc (suc i)) l), sym (drop-cons l (suc i) 0 g'))
-
-pub moved_all : (ids : List ℕ) (i : ℕ) → suc i ≤ length ids → cut i (take (suc i) ids) ≡ take i ids
-moved_all ids i fits =
-    rw (take-take i (suc i) ids (omega arith), from_end ids (suc i) fits, append-nil (take i ids))
-
-pub one_too_large : (r : Register) → length r.ids ≡ 345 → r.count ≤ 345
-    → plain.none_above max_extended_id (take r.count r.ids) ≡ false → plain.valid_register (open_in r) ≡ false
-unfolding plain.valid_register
-one_too_large r k h e =
-    rw (within r h, length-take-le r.count r.ids (omega arith), le-leb r.count 345 h, e)
-
-pub none_too_large : (r : Register) → length r.ids ≡ 345 → r.count ≤ 345
-    → plain.none_above max_extended_id (take r.count r.ids) ≡ true
-    → plain.valid_register (open_in r) ≡ eqb r.off 0 || eqb r.count 0
-unfolding plain.valid_register
-none_too_large r k h e =
-    rw (within r h, length-take-le r.count r.ids (omega arith), le-leb r.count 345 h, e) (twice (eqb r.off 0))
+removed : (id : ℕ) (l : List ℕ) → plain.remove id l ≡ cut (place_of id l) l
+unfolding plain.remove
+removed id [] = refl
+removed id (x ∷ xs) = rw (removed id xs) (go (eqb x id))
   where
-    twice : (b : Bool) → not (not b) || eqb r.count 0 ≡ b || eqb r.count 0
-    twice true = refl
-    twice false = refl
+    go : (t : Bool) → cond t xs (x ∷ cut (place_of id xs) xs) ≡ cut (cond (not t) (1 + place_of id xs) 0) (x ∷ xs)
+    go true = refl
+    go false = search rules
 
--- a valid register has room for all it counts
-pub valid-within : (r : Register) → length r.ids ≡ 345 → plain.valid_register (open_in r) ≡ true → r.count ≤ 345
-unfolding plain.valid_register
-valid-within r k e =
-    go (leb (length (open_in r).opened) 345) (plain.none_above max_extended_id (open_in r).opened)
-    (not (open_in r).off || eqb (length (open_in r).opened) 0) refl e
-  where
-    go : (t u v : Bool) → leb (length (open_in r).opened) 345 ≡ t → t && u && v ≡ true → r.count ≤ 345
-    go true u v q e = rw (length-opened r k) at (leb-true (length (open_in r).opened) 345 q)
-    go false u v q e = let z : ◌≡◌ {A = ℕ} 0 1 = cc in absurd (omega arith)
+module _ (r : plain.Register) (id : ℕ) where
+  pub closes_none : None ≡ position (λ x. x == id) r.opened → plain.rejected register_differs ≡ plain.close_id r id
+  unfolding plain.close_id
+  closes_none e = rw (found id r.opened) (go (ltb (place_of id r.opened) (length r.opened)) _ e)
+    where
+      go : (t : Bool) (u : plain.Update) → None ≡ cond t (Some (place_of id r.opened)) None
+          → plain.rejected register_differs ≡ cond t u (plain.rejected register_differs)
+      go true u e = cc
+      go false u e = refl
+
+  pub closes_at : (place : ℕ) → Some place ≡ position (λ x. x == id) r.opened
+      → plain.updated (plain.with_opened r (cut place r.opened)) ≡ plain.close_id r id
+  unfolding plain.close_id
+  closes_at place e = rw (found id r.opened, removed id r.opened) (go (ltb (place_of id r.opened) (length r.opened)) _ e)
+    where
+      go : (t : Bool) (u : plain.Update) → Some place ≡ cond t (Some (place_of id r.opened)) None
+          → plain.updated (plain.with_opened r (cut place r.opened))
+          ≡ cond t (plain.updated (plain.with_opened r (cut (place_of id r.opened) r.opened))) u
+      go true u e = cc
+      go false u e = cc
+
+-- the IDs behind a place have moved down by one
+pub moved_down : (ids : List ℕ) (n place : ℕ) → n ≤ length ids → place < length (take n ids)
+    → take (n - 1) (copy_within ids (place + 1) n place) ≡ cut place (take n ids)
+moved_down ids n place fits h =
+    let l : length (take n ids) ≡ n = length-take-le n ids fits in
+    let a : n - 1 ≡ place + (n - (place + 1)) = omega arith in
+    let behind : n - (place + 1) ≤ length (drop (place + 1) ids) = simp length-drop (omega arith) in
+    let copied = take-paste ids place (drop (place + 1) ids) (n - (place + 1)) (omega arith) behind in
+    rw (a, copied, take-take place n ids (omega arith), add-one, between_is)
+
+pub ruleset closing = (closes_none, closes_at, moved_down)
+
+-- ---- the form that a call hands back
+
+-- zeros behind the open IDs
+pub zeroed : (ids : List ℕ) (n : ℕ) → length ids ≡ 345 → n ≤ 345
+    → put_mid n (345 - n) ids (replicate (length (take (345 - n) (drop n ids))) 0) ≡ take n ids ++ replicate (345 - n) 0
+zeroed ids n k h = grind (arith, common_steps)
+
+pub off_is : (b : Bool) → bool_byte b ≡ cond b 1 0
+off_is true = refl
+off_is false = refl
+
+pub ruleset flat = (zeroed, off_is)

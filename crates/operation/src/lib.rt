@@ -285,7 +285,7 @@ pub const WAKEUP_LENGTH: usize = 8;
 
 pub const FORMAT_ERROR_HEAD: usize = 10;
 
-#[derive(Clone, Copy)]
+#[derive(Clone, Copy, Debug, PartialEq, Eq)]
 pub enum Operation {
     FormatError {
         n: u16,

@@ -2,6 +2,7 @@
 -- Assumes nothing.
 use mathlib.Core.Path.{◌≡◌, refl, sym}
 use mathlib.Core.Bool.{Bool, true, false, cond, ◌&&◌, ◌||◌}
+use Rattle.std.specs.Prelude.{Option, Some, None}
 use Prim.Native.Nat.{ℕ, ◌+◌, ◌*◌, ◌-◌, ◌/◌, ◌%◌, ◌≤◌, ◌<◌}
 use native.Mathlib.Omega.{arith}
 use lib.Dec.{leb, ltb, eqb}
@@ -9,24 +10,28 @@ use borrow.Author.Tests.{lt-leb, lt-ltb, le-ltb, ltb-true, ltb-false, eqb-true, 
 use Rattle.operation.proofs.Tests.{false_is_true}
 use Rattle.plain_bus.specs.Order.{lower_or}
 use Rattle.scan.specs.declared.Winner.{Winner}
-use Rattle.scan.specs.declared.Winner.TheVariants.{Nobody, First}
 use Rattle.scan.specs.Winner.{before, better, owner_of, Small}
 use Rattle.scan.specs.Scan.{frame_key, no_frame, key_of, winner_block, lower_of}
 
+-- a frame as the winner
+abbrev frame : ℕ → ℕ → ℕ → Option Winner
+frame r o p = Some (record { rank = r; owner = o; position = p })
+
 -- ---- read as they are made
 
-pub no_frame_lem : (w : Winner) → Small w → no_frame ≤ key_of w → Nobody ≡ w
+pub no_frame_lem : (w : Option Winner) → Small w → no_frame ≤ key_of w → None ≡ w
 unfolding key_of
-no_frame_lem Nobody s h = refl
-no_frame_lem (First r o p) s h = absurd (omega (arith, s.0, s.1, s.2))
+no_frame_lem None s h = refl
+no_frame_lem (Some w) s h = absurd (omega (arith, s.0, s.1, s.2))
 
-pub a_frame : (w : Winner) (r o p : ℕ) → Small w → key_of w < no_frame → o < 8 → p < 4 → frame_key r (4 * o + p) ≡ key_of w → First r o p ≡ w
+pub winner_read : (w : Option Winner) (k : ℕ) → Small w → key_of w ≡ k → 1 ≤ k → k < no_frame
+    → frame ((k - 1) / 32) ((k - 1) % 32 / 4) ((k - 1) % 32 % 4) ≡ w
 unfolding key_of
-a_frame Nobody r o p s h ho hp e = absurd (omega arith)
-a_frame (First r₁ o₁ p₁) r o p s h ho hp e =
-    let a : r ≡ r₁ = omega (arith, s.1, s.2) in
-    let b : o ≡ o₁ = omega (arith, s.1, s.2) in
-    let c : p ≡ p₁ = omega (arith, s.1, s.2) in
+winner_read None k s e h l = absurd (omega arith)
+winner_read (Some w) k s e h l =
+    let a : (k - 1) / 32 ≡ w.rank = omega (arith, s.1, s.2) in
+    let b : (k - 1) % 32 / 4 ≡ w.owner = omega (arith, s.1, s.2) in
+    let c : (k - 1) % 32 % 4 ≡ w.position = omega (arith, s.1, s.2) in
     rw (a, b, c)
 
 pub some_key : (k : ℕ) → (eqb k 0 || leb no_frame k) ≡ false → 1 ≤ k
@@ -42,10 +47,10 @@ frame-block r o p k e hr ho hp =
     let place : 4 * ((k - 1) % 32 / 4) ≡ 4 * o = omega arith in
     rw (ne_eqb k 0 (λ z. omega arith), lt-leb no_frame k (omega arith)) place
 
-pub block_of : (w : Winner) → Small w → winner_block (key_of w) ≡ 4 * owner_of w
+pub block_of : (w : Option Winner) → Small w → winner_block (key_of w) ≡ 4 * owner_of w
 unfolding key_of winner_block
-block_of Nobody s = refl
-block_of (First r o p) s = frame-block r o p (frame_key r (4 * o + p)) refl s.0 s.1 s.2
+block_of None s = refl
+block_of (Some w) s = frame-block w.rank w.owner w.position (key_of (Some w)) refl s.0 s.1 s.2
 
 -- ---- the order by the keys is the order among frames
 
@@ -80,20 +85,20 @@ module _ (r o p r₁ o₁ p₁ : ℕ) (ho : o < 8) (hp : p < 4) (ho₁ : o₁ < 
   key_order = by_rank (ltb r r₁) refl (eqb r r₁) refl
 
 module _ (r o p : ℕ) where
-  pub key_better : (w : Winner) → Small w → r < 4_294_967_296 → o < 8 → p < 4 → lower_of (frame_key r (4 * o + p)) (key_of w) ≡ key_of (better w r o p)
+  pub key_better : (w : Option Winner) → Small w → r < 4_294_967_296 → o < 8 → p < 4 → lower_of (frame_key r (4 * o + p)) (key_of w) ≡ key_of (better w r o p)
   unfolding key_of better
-  key_better Nobody s hr ho hp = rw (lt-ltb (frame_key r (4 * o + p)) no_frame (omega arith))
-  key_better (First r₁ o₁ p₁) s hr ho hp = rw (key_order r o p r₁ o₁ p₁ ho hp s.1 s.2) (go (before r o p r₁ o₁ p₁))
+  key_better None s hr ho hp = rw (lt-ltb (frame_key r (4 * o + p)) no_frame (omega arith))
+  key_better (Some w) s hr ho hp = rw (key_order r o p w.rank w.owner w.position ho hp s.1 s.2) (go (before r o p w.rank w.owner w.position))
     where
-      go : (t : Bool) → cond t (frame_key r (4 * o + p)) (frame_key r₁ (4 * o₁ + p₁)) ≡ key_of (cond t (First r o p) (First r₁ o₁ p₁))
+      go : (t : Bool) → cond t (key_of (frame r o p)) (key_of (Some w)) ≡ key_of (cond t (frame r o p) (Some w))
       go true = refl
       go false = refl
 
-  pub better_small : (w : Winner) → Small w → r < 4_294_967_296 → o < 8 → p < 4 → Small (better w r o p)
+  pub better_small : (w : Option Winner) → Small w → r < 4_294_967_296 → o < 8 → p < 4 → Small (better w r o p)
   unfolding better
-  better_small Nobody s hr ho hp = (hr, ho, hp)
-  better_small (First r₁ o₁ p₁) s hr ho hp = go (before r o p r₁ o₁ p₁)
+  better_small None s hr ho hp = (hr, ho, hp)
+  better_small (Some w) s hr ho hp = go (before r o p w.rank w.owner w.position)
     where
-      go : (t : Bool) → Small (cond t (First r o p) (First r₁ o₁ p₁))
+      go : (t : Bool) → Small (cond t (frame r o p) (Some w))
       go true = (hr, ho, hp)
       go false = s

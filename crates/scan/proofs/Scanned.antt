@@ -3,6 +3,7 @@
 use mathlib.Core.Path.{◌≡◌, refl, sym, ◌∙◌}
 use mathlib.Core.Bool.{Bool, true, false, cond, ◌&&◌}
 use mathlib.Core.List.{List}
+use Rattle.std.specs.Prelude.{Option, Some, None}
 use Prim.Native.Nat.{ℕ, zero, suc, ◌+◌, ◌*◌, ◌≤◌, ◌<◌}
 use native.Mathlib.Nat.{add-zero}
 use native.Mathlib.Omega.{arith}
@@ -21,7 +22,6 @@ use Rattle.bus_state.specs.declared.NodeState.{NodeState}
 use Rattle.bus_state.proofs.Tests.{few}
 use Rattle.scan.specs.declared.Run.{Run}
 use Rattle.scan.specs.declared.Winner.{Winner}
-use Rattle.scan.specs.declared.Winner.TheVariants.{Nobody, First}
 use Rattle.scan.specs.Winner.{held_at, better, best_of, best_from, best_in, Small}
 use Rattle.scan.specs.Scan.{frame_key, no_frame, key_of, lower_of, step_of, steps_of, begun, frames_key, entry_key, frame_count, nodes_key, scanned}
 use Rattle.scan.proofs.Keys.{key_better, better_small}
@@ -29,11 +29,11 @@ use Rattle.scan.proofs.Frames.{rank_is}
 use Rattle.scan.proofs.Following.{slots_follow, last_round, steps_low, following_valid}
 
 -- the key so far: that of w where all was valid, and 0 where not
-abbrev pub KeyIs : ℕ → Bool → Winner → Type 0
+abbrev pub KeyIs : ℕ → Bool → Option Winner → Type 0
 KeyIs k ok w = k ≡ cond ok (key_of w) 0
 
 -- and w is one of the frames, where all was valid
-abbrev pub SmallIf : Bool → Winner → Type 0
+abbrev pub SmallIf : Bool → Option Winner → Type 0
 SmallIf ok w = ok ≡ true → Small w
 
 and_true : (b : Bool) → (b && true) ≡ b
@@ -54,10 +54,10 @@ module _ (a : List Slot) (j q : ℕ) (j8 : j < 8) (q4 : q < 4) where
   abbrev x : Slot
   x = get_or a (4 * j + q) free_slot
 
-  abbrev next : Winner → Winner
+  abbrev next : Option Winner → Option Winner
   next w = better w (rank (held_at a (4 * j + q))) j q
 
-  step_key : (r : Run) (ok : Bool) (w : Winner) → KeyIs r.key ok w → SmallIf ok w
+  step_key : (r : Run) (ok : Bool) (w : Option Winner) → KeyIs r.key ok w → SmallIf ok w
       → KeyIs (step_of r x j (4 * j + q)).key (ok && slot_follows j r.low x) (next w)
   unfolding step_of
   step_key r ok w e s = go ok (slot_follows j r.low x) refl e s
@@ -71,7 +71,7 @@ module _ (a : List Slot) (j q : ℕ) (j8 : j < 8) (q4 : q < 4) where
       go true false qv e s = refl
       go false false qv e s = refl
 
-  step_small : (low : ℕ) (ok : Bool) (w : Winner) → SmallIf ok w → SmallIf (ok && slot_follows j low x) (next w)
+  step_small : (low : ℕ) (ok : Bool) (w : Option Winner) → SmallIf ok w → SmallIf (ok && slot_follows j low x) (next w)
   step_small low ok w s = go ok (slot_follows j low x) refl s
     where
       go : (o v : Bool) → slot_follows j low x ≡ v → SmallIf o w → SmallIf (o && v) (next w)
@@ -84,12 +84,12 @@ module _ (a : List Slot) (j q : ℕ) (j8 : j < 8) (q4 : q < 4) where
 -- ---- n slots of a node from position q on
 
 -- the key after one more test
-last_key : (k : ℕ) (ok t : Bool) (w : Winner) → KeyIs k ok w → SmallIf ok w → KeyIs (cond t k 0) (ok && t) w × SmallIf (ok && t) w
+last_key : (k : ℕ) (ok t : Bool) (w : Option Winner) → KeyIs k ok w → SmallIf ok w → KeyIs (cond t k 0) (ok && t) w × SmallIf (ok && t) w
 last_key k ok true w e s = rw (and_true ok) (e, s)
 last_key k ok false w e s = rw (and_false ok) (refl, λ h. false_is_true h)
 
 module _ (a : List Slot) (j : ℕ) (j8 : j < 8) where
-  steps_key : (n q : ℕ) → q + n ≤ 4 → (r : Run) (ok : Bool) (w : Winner) → KeyIs r.key ok w → SmallIf ok w
+  steps_key : (n q : ℕ) → q + n ≤ 4 → (r : Run) (ok : Bool) (w : Option Winner) → KeyIs r.key ok w → SmallIf ok w
       → KeyIs (steps_of n (4 * j + q) j a r).key (ok && slots_follow n (4 * j + q) j r.low a) (best_of a j q n w)
       × SmallIf (ok && slots_follow n (4 * j + q) j r.low a) (best_of a j q n w)
   unfolding steps_of slots_follow best_of step_of
@@ -104,7 +104,7 @@ module _ (a : List Slot) (j : ℕ) (j8 : j < 8) where
       rw (← assoc ok v (slots_follow n (suc (4 * j + q)) j (get_or a (4 * j + q) free_slot).accepted a)) (rw p at i)
 
   -- all n frames of a node
-  frames_key_lem : (now n key : ℕ) → n ≤ 4 → (ok : Bool) (w : Winner) → KeyIs key ok w → SmallIf ok w
+  frames_key_lem : (now n key : ℕ) → n ≤ 4 → (ok : Bool) (w : Option Winner) → KeyIs key ok w → SmallIf ok w
       → KeyIs (frames_key n j now a key) (ok && valid_slots n (4 * j) j 0 now a) (best_of a j 0 n w)
       × SmallIf (ok && valid_slots n (4 * j) j 0 now a) (best_of a j 0 n w)
   frames_key_lem now n key h ok w e s =
@@ -120,7 +120,7 @@ module _ (s : State) (a : List Slot) where
   abbrev entry : ℕ → NodeState
   entry j = node_state s j
 
-  node_key : (j key : ℕ) → j < 8 → (ok : Bool) (w : Winner) → KeyIs key ok w → SmallIf ok w
+  node_key : (j key : ℕ) → j < 8 → (ok : Bool) (w : Option Winner) → KeyIs key ok w → SmallIf ok w
       → KeyIs (frames_key (frame_count (entry j)) j s.round a (entry_key (entry j) key)) (ok && valid_node s.round j (entry j) a) (best_of a j 0 (entry j).pending w)
       × SmallIf (ok && valid_node s.round j (entry j) a) (best_of a j 0 (entry j).pending w)
   unfolding valid_node steps_of
@@ -135,7 +135,7 @@ module _ (s : State) (a : List Slot) where
       go true q = frames_key_lem a j j8 s.round n key (few (entry j) q) ok w e z
       go false q = rw (and_false ok, le-leb 0 s.round (omega arith)) (refl, λ h. false_is_true h)
 
-  nodes_key_lem : (n j key : ℕ) → j + n ≤ 8 → (ok : Bool) (w : Winner) → KeyIs key ok w → SmallIf ok w
+  nodes_key_lem : (n j key : ℕ) → j + n ≤ 8 → (ok : Bool) (w : Option Winner) → KeyIs key ok w → SmallIf ok w
       → KeyIs (nodes_key n j s a key) (ok && valid_nodes n j s a) (best_from s.nodes a j n w) × SmallIf (ok && valid_nodes n j s a) (best_from s.nodes a j n w)
   unfolding nodes_key valid_nodes best_from
   nodes_key_lem zero j key h ok w e z = rw (and_true ok) (e, z)
@@ -150,17 +150,17 @@ module _ (s : State) (a : List Slot) where
   scanned_is = go (leb 2 s.count && leb s.count 8) refl
     where
       go : (t : Bool) → (leb 2 s.count && leb s.count 8) ≡ t
-          → KeyIs (nodes_key (cond t s.count 0) 0 s a (cond t no_frame 0)) (t && valid_nodes s.count 0 s a) (best_from s.nodes a 0 s.count Nobody)
-          × SmallIf (t && valid_nodes s.count 0 s a) (best_from s.nodes a 0 s.count Nobody)
-      go true q = nodes_key_lem s.count 0 no_frame (omega (arith, leb-true s.count 8 (both (leb 2 s.count) (leb s.count 8) q).1)) true Nobody refl (λ h. tt)
+          → KeyIs (nodes_key (cond t s.count 0) 0 s a (cond t no_frame 0)) (t && valid_nodes s.count 0 s a) (best_from s.nodes a 0 s.count None)
+          × SmallIf (t && valid_nodes s.count 0 s a) (best_from s.nodes a 0 s.count None)
+      go true q = nodes_key_lem s.count 0 no_frame (omega (arith, leb-true s.count 8 (both (leb 2 s.count) (leb s.count 8) q).1)) true None refl (λ h. tt)
       go false q = (refl, λ h. false_is_true h)
 
   -- ---- for the calls: 0 is a state that is not valid, and any other key the winner's
 
-  key_above : (w : Winner) → 1 ≤ key_of w
+  key_above : (w : Option Winner) → 1 ≤ key_of w
   unfolding key_of
-  key_above Nobody = omega arith
-  key_above (First r o p) = omega arith
+  key_above None = omega arith
+  key_above (Some w) = omega arith
 
   pub valid_key : 1 ≤ scanned s a → valid_state s a ≡ true
   valid_key h = go (valid_state s a) scanned_is.0

@@ -1,7 +1,7 @@
 -- Internal. One pass over the pending frames: it tests whether state and slots are valid and finds the winner, both in one number, the
 -- key.
 -- Assumes nothing.
-use Rattle.std.specs.Prelude.{ℕ, zero, suc, ◌+◌, ◌*◌, ◌-◌, ◌/◌, ◌%◌, List, cond, ◌&&◌, ◌||◌, leb, ltb, eqb, get_or}
+use Rattle.std.specs.Prelude.{ℕ, zero, suc, ◌+◌, ◌*◌, ◌-◌, ◌/◌, ◌%◌, List, cond, ◌&&◌, ◌||◌, leb, ltb, eqb, get_or, Option, None, Some}
 use Rattle.slots.specs.Slots.{free_slot}
 use Rattle.slots.specs.declared.Slot.{Slot}
 use Rattle.bus_state.specs.Memory.{slots_per_node, node_state, slot_count}
@@ -11,7 +11,6 @@ use Rattle.bus_state.specs.declared.State.{State}
 use Rattle.bus_state.specs.declared.NodeState.{NodeState}
 use Rattle.scan.specs.declared.Run.{Run}
 use Rattle.scan.specs.declared.Winner.{Winner}
-use Rattle.scan.specs.declared.Winner.TheVariants.{Nobody, First}
 
 -- ---- the key: 0 for what is not valid, else a number by which the frames are in their order
 
@@ -23,9 +22,9 @@ frame_key rank p = rank * slot_count + p + 1
 abbrev pub no_frame : ℕ
 no_frame = 137_438_953_473
 
-unfoldable pub key_of : Winner → ℕ
-key_of Nobody = no_frame
-key_of (First rank owner position) = frame_key rank (slots_per_node * owner + position)
+unfoldable pub key_of : Option Winner → ℕ
+key_of None = no_frame
+key_of (Some w) = frame_key w.rank (slots_per_node * w.owner + w.position)
 
 -- the first slot of the winner's node, by the key; 0 where there is no winner
 unfoldable pub winner_block : ℕ → ℕ

@@ -2,7 +2,7 @@
 // are its steps, for the crates above: lent_scan goes over the lent slots by them. What is required the callers must meet.
 #![tactic(auto)]
 
-ghost use Rattle.std.specs.Prelude.{◌≡◌, ◌&&◌, leb, ◌+◌, ◌≤◌, ◌<◌};
+ghost use Rattle.std.specs.Prelude.{◌≡◌, ◌&&◌, leb, ◌+◌, ◌≤◌, ◌<◌, Option};
 ghost use Rattle.bus_state.specs.Memory.{slot_count, slots_per_node};
 ghost use Rattle.scan.specs.Winner.{Small};
 ghost use Rattle.scan.specs.declared.Winner.{Winner};
@@ -13,13 +13,10 @@ use slots::Slot;
 
 // The first of the frames seen so far: what it is compared by, its node, and its position among that node's pending frames.
 #[derive(Clone, Copy)]
-pub enum Winner {
-    Nobody,
-    First {
-        rank: u32,
-        owner: usize,
-        position: usize,
-    },
+pub struct Winner {
+    pub rank: u32,
+    pub owner: usize,
+    pub position: usize,
 }
 
 // The pass along a node's frames: the key so far, and the round at which the last frame was accepted.
@@ -30,6 +27,7 @@ pub struct Run {
 }
 
 // The key of a state that is not valid. That of a frame is its rank * 32 + its slot + 1, so that the lowest key is the winner's.
+// Stays: one number, and no Option: 0 wins every minimum, so that an invalid slot needs no branch in the loop over the pending frames.
 pub const INVALID: u64 = 0;
 
 const NO_FRAME: u64 = 137438953473;
@@ -38,7 +36,7 @@ const SLOT_COUNT: u64 = bus_state::SLOT_COUNT as u64;
 
 const SLOTS_PER_NODE: u64 = bus_state::SLOTS_PER_NODE as u64;
 
-// Of a state: how many nodes are attached, the round, the entries, and the key to begin with.
+// Of a state: how many nodes are attached, and the key to begin with.
 
 fn count_is_legal(count: u32) -> bool
     ensures { result ≡ (leb 2 count && leb count 8) }
@@ -53,18 +51,6 @@ pub fn attached(s: State) -> usize
         return s.count as usize;
     }
     0
-}
-
-pub fn round_of(s: State) -> u32
-    ensures { result ≡ s.round }
-{
-    s.round
-}
-
-pub fn entries_of(s: State) -> [NodeState; 8]
-    ensures { result ≡ s.nodes }
-{
-    s.nodes
 }
 
 pub fn first_key(s: State) -> u64
@@ -87,6 +73,7 @@ pub fn entry_key(d: NodeState, key: u64) -> u64
     INVALID
 }
 
+#[tactic(auto, using(bus_state::proofs::Tests::few))]
 pub fn frame_count(d: NodeState) -> usize
     ensures { (result ≡ frame_count d) × (result ≤ slots_per_node) }
 {
@@ -96,68 +83,60 @@ pub fn frame_count(d: NodeState) -> usize
     0
 }
 
-// Along a node's frames.
-
-pub fn begin(key: u64) -> Run
-    ensures { result ≡ begun key }
-{
-    Run { key, low: 0 }
-}
-
-fn with_frame(r: Run, key: u64, accepted: u32) -> Run
-    ensures { result ≡ record { key = lower_of key r.key; low = accepted } }
-{
-    if key < r.key {
-        return Run { key, low: accepted };
+impl Run {
+    // Before a node's first frame.
+    pub fn begin(key: u64) -> Run
+        ensures { result ≡ begun key }
+    {
+        Run { key, low: 0 }
     }
-    Run {
-        key: r.key,
-        low: accepted,
-    }
-}
 
-// One more slot, p of node j.
-pub fn step(r: Run, x: Slot, j: usize, p: usize) -> Run
-    requires { (j < 8) × (p < slot_count) }
-    ensures { result ≡ step_of r x j p }
-{
-    if !bus_state::slot_follows(x, j as u8, r.low) {
-        return Run {
-            key: INVALID,
-            low: x.accepted,
-        };
+    // One more slot, p of node j.
+    #[tactic(auto, unfolding(crate::specs::Scan::step_of))]
+    pub fn step(self, x: Slot, j: usize, p: usize) -> Run
+        requires { (j < 8) × (p < slot_count) }
+        ensures { result ≡ step_of self x j p }
+    {
+        let low = x.accepted;
+        if !bus_state::slot_follows(x, j as u8, self.low) {
+            return Run { key: INVALID, low };
+        }
+        let frame = x.id as u64 * SLOT_COUNT + p as u64 + 1;
+        let key = frame.min(self.key);
+        Run { key, low }
     }
-    with_frame(r, x.id as u64 * SLOT_COUNT + p as u64 + 1, x.accepted)
-}
 
-// Along a node's frames the rounds do not fall, so that none was accepted after now if the last was not.
-pub fn key_of(r: Run, now: u32) -> u64
-    ensures { result ≡ run_key r now }
-{
-    if now < r.low {
-        return INVALID;
+    // Behind the last frame. Along a node's frames the rounds do not fall, so that none was accepted after now if the last was not.
+    pub fn end(self, now: u32) -> u64
+        ensures { result ≡ run_key self now }
+    {
+        if now < self.low {
+            return INVALID;
+        }
+        self.key
     }
-    r.key
 }
 
 // The winner by the key of a valid state.
-pub fn winner_of(key: u64) -> Winner
+#[tactic(auto, using(crate::proofs::Keys::no_frame_lem))]
+pub fn winner_of(key: u64) -> Option<Winner>
     requires { 1 ≤ key }
-    ensures { (w : Winner) → Small w → key_of w ≡ key → result ≡ w }
+    ensures { (w : Option Winner) → Small w → key_of w ≡ key → result ≡ w }
 {
     if NO_FRAME <= key {
-        return Winner::Nobody;
+        return None;
     }
     let place = (key - 1) % SLOT_COUNT;
     let rank = (key - 1) / SLOT_COUNT;
-    Winner::First {
+    Some(Winner {
         rank: rank as u32,
         owner: (place / SLOTS_PER_NODE) as usize,
         position: (place % SLOTS_PER_NODE) as usize,
-    }
+    })
 }
 
 // The first slot of the winner's node; 0 where there is no winner.
+#[tactic(auto, unfolding(crate::specs::Scan::winner_block), using(crate::proofs::Keys::some_key))]
 pub fn winner_block(key: u64) -> usize
     ensures { (result ≡ winner_block key) × (result + slots_per_node ≤ slot_count) }
 {

@@ -1,22 +1,16 @@
-use Prim.Native.Nat.{◌-◌}
+-- Node by node, each by its own length.
 use Rattle.arbitration.proofs.Lengths.{owed-short}
 use Rattle.arbitration.proofs.Rooms.{room_bad, room-good, room-end}
 use Rattle.arbitration.proofs.Attached.{own-pending}
 use Rattle.bus_state.specs.Memory.{node_state}
 use lib.Dec.{eqb}
-use mathlib.Core.Path.{◌≡◌, sym, ◌∙◌}
+use mathlib.Core.Path.{sym, ◌∙◌}
 use native.Mathlib.Numerals.{add-one}
 use native.Mathlib.Omega.{arith}
 use Rattle.arbitration.proofs.has_room.Goals as goal
 
-pub loop-j-init : goal.loop-j-init
-loop-j-init c =
-    let z : c.args.s.count - 0 ≡ c.args.s.count = omega arith in
-    (omega arith, c.requires.0, rw z)
-
 pub owed_length-requires : goal.owed_length-requires
-owed_length-requires c =
-    (own-pending c.args.s c.loop-j.j c.args.owner c.requires.1, c.requires.2)
+owed_length-requires c = (own-pending c.args.s c.loop-j.j c.args.owner c.requires.1, c.requires.2)
 
 pub overflow_add-d : goal.overflow_add-d
 overflow_add-d c =
@@ -28,7 +22,7 @@ returns-then-d-owed_length-gt-BYTES_PER_QUEUE c =
     let l = c.loop-j in
     let a = c.args in
     let h = rw c.owed_length.ensures at c.if-d-owed_length-gt-BYTES_PER_QUEUE.true in
-    sym (room_bad a.e a.s.nodes a.owner a.size l.j a.s.count (omega arith) (omega (arith, h))) ∙ l.invariant.2
+    sym (room_bad a.e a.s.nodes a.owner a.size l.j a.s.count (omega arith) (omega (arith, h))) ∙ l.invariant
 
 pub loop-j-preserved : goal.loop-j-preserved
 loop-j-preserved c =
@@ -36,10 +30,10 @@ loop-j-preserved c =
     let a = c.args in
     let h = rw c.owed_length.ensures at c.if-d-owed_length-gt-BYTES_PER_QUEUE.false in
     let now = room-good a.e a.s.nodes a.owner a.size l.j a.s.count (omega arith) (omega (arith, h)) in
-    (omega arith, omega arith, rw (add-one l.j) (sym now ∙ l.invariant.2))
+    rw (add-one l.j) (sym now ∙ l.invariant)
 
 pub returns : goal.returns
 returns c =
     let a = c.args in
     let l = c.loop-j in
-    sym (room-end a.e a.s.nodes a.owner a.size l.j a.s.count (omega arith)) ∙ l.invariant.2
+    sym (room-end a.e a.s.nodes a.owner a.size l.j a.s.count (omega arith)) ∙ l.invariant

@@ -3,13 +3,10 @@ use Rattle.arbitration.proofs.Moves.{data_next, data_end_lem, data_length-kept}
 use Rattle.scan.specs.Winner.{held_at}
 use Rattle.operation.specs.Format.{data_length}
 use lib.ListN.{length}
-use mathlib.Core.Path.{◌≡◌, refl, sym, ap, ◌∙◌}
+use mathlib.Core.Path.{◌≡◌, sym, ap, ◌∙◌}
 use native.Mathlib.Numerals.{add-one}
 use native.Mathlib.Omega.{arith}
 use Rattle.arbitration.proofs.move_data.Goals as goal
-
-pub loop-q-init : goal.loop-q-init
-loop-q-init c = (omega arith, omega arith, refl, refl)
 
 pub shift-requires : goal.shift-requires
 shift-requires c =
@@ -25,19 +22,18 @@ loop-q-preserved c =
     let a = c.args in
     let w = (c.requires.frames (l.q + 1) (omega arith) (omega arith)).short in
     let n : c.data_length-n.result ≡ data_length (held_at a.four (l.q + 1)) = c.data_length-n.ensures ∙ ap data_length c.held_in.ensures
-    in (
-      omega arith,
-      omega arith,
-      rw (c.shift.ensures, n, add-one (a.at + l.q), add-one l.q)
-          (sym (data_next a.four a.at l.q a.last l.payload (omega arith)) ∙ l.invariant.2),
-      ap length c.shift.ensures ∙ data_length-kept l.payload _ _ _ (omega arith) (omega arith) ∙ l.invariant.3,
-    )
+    in record {
+      moved =
+          rw (c.shift.ensures, n, add-one (a.at + l.q), add-one l.q)
+          (sym (data_next a.four a.at l.q a.last l.payload (omega arith)) ∙ l.invariant.moved);
+      size = ap length c.shift.ensures ∙ data_length-kept l.payload _ _ _ (omega arith) (omega arith) ∙ l.invariant.size;
+    }
 
 pub shape_of-payload : goal.shape_of-payload
-shape_of-payload c = c.loop-q.invariant.3
+shape_of-payload c = c.loop-q.invariant.size
 
 pub returns : goal.returns
 returns c =
     let a = c.args in
     let l = c.loop-q in
-    sym (data_end_lem a.four a.at l.q a.last l.payload (omega arith)) ∙ l.invariant.2
+    sym (data_end_lem a.four a.at l.q a.last l.payload (omega arith)) ∙ l.invariant.moved

@@ -2,7 +2,7 @@
 use Prim.Native.Nat.{◌*◌}
 use Rattle.arbitration.proofs.Attached.{count-few}
 use Rattle.arbitration.proofs.Ends.{wrong_ended, idle_ended, won-ended}
-use Rattle.arbitration.proofs.Given.{owner_small, first-drawn}
+use Rattle.arbitration.proofs.Given.{owner_small}
 use Rattle.arbitration.proofs.Wrong.{right_code}
 use Rattle.arbitration.specs.Injections.{is_wrong}
 use mathlib.Core.Bool.{true, false}
@@ -40,33 +40,33 @@ arbitrate-requires c =
     let a = c.args in
     let q : is_wrong a.s a.e ≡ false = grind (arith, common_steps) in
     record {
-      drawn_at = (c.requires.drawn.0, first-drawn c.requires.drawn.1 c.in-First.is);
+      drawn = (c.requires.drawn.0, rw c.in-Some.is at c.requires.drawn.1);
       e_value = right_code a.s a.e q;
       payload_len = c.requires.payload_len;
     }
 
-pub returns-in-Nobody : goal.returns-in-Nobody
-returns-in-Nobody c =
+pub returns-in_default : goal.returns-in_default
+returns-in_default c =
     let a = c.args in
     let f = c.first_slot-at in
     let q : is_wrong a.s a.e ≡ false = grind (arith, common_steps) in
     record {
       queues_after =
           λ l d. block-kept-ends (Ok Idle) a.s l f.result a.payload.now a.queues.now (rw f.ensures d.block)
-          ∙ idle_ended a.s l a.payload.now a.queues.now a.e q (sym d.first ∙ c.in-Nobody.is);
+          ∙ idle_ended a.s l a.payload.now a.queues.now a.e q (sym d.first ∙ c.in_default.is);
       at_value = f.ensures;
       slots_per_node_bound = omega (arith, f.ensures, owner_small c.requires.drawn.1);
     }
 
-pub returns-in-First : goal.returns-in-First
-returns-in-First c =
+pub returns : goal.returns
+returns c =
     let a = c.args in
-    let g = c.in-First.is in
+    let g = c.in-Some.is in
     let q : is_wrong a.s a.e ≡ false = grind (arith, common_steps) in
     let e = c.arbitrate.ensures in
     let o : c.arbitrate.result.at ≡ 4 * owner_of a.best = e.at_value ∙ rw g in
     record {
-      queues_after = λ l d. e.queues_after l (first-drawn d g) ∙ won-ended a.s l a.payload.now a.queues.now a.e q (sym d.first ∙ g);
+      queues_after = λ l d. e.queues_after l (rw g at d) ∙ won-ended a.s l a.payload.now a.queues.now a.e q (sym d.first ∙ g);
       at_value = o;
       slots_per_node_bound = omega (arith, o, owner_small c.requires.drawn.1);
     }

@@ -33,7 +33,7 @@ overflow_add-slot c =
 pub loop-j-init : goal.loop-j-init
 loop-j-init c =
     let z : c.args.s.count - 0 ≡ c.args.s.count = omega arith in
-    (omega arith, c.requires.round_lt_last_round.2.count, rw z, rw z, refl, λ i h. refl)
+    record { entries = rw z; queues = rw z; same = λ i h. refl }
 
 pub tell-to-requires : goal.tell-to-requires
 tell-to-requires c =
@@ -44,19 +44,13 @@ tell-to-requires c =
     let k =
     owed-fits a.e (held_in (content_of a.winner)) a.bytes.now a.size c.requires.round_lt_last_round.2 c.requires.pending_at g.1 g.2 r.0
     l.j (omega arith) in
-    rw (l.invariant.5 l.j (omega arith))
+    rw (l.invariant.same l.j (omega arith))
     (record {
       j_bound = omega arith;
       writable = g.0;
       e_value = (c.requires.round_lt_last_round.1, g.1, g.2);
-      bytes_in_bounds = omega (arith, k, r.1, l.invariant.4);
+      bytes_in_bounds = omega (arith, k, r.1, l.auto.queues);
     })
-
-pub overflow_add-end : goal.overflow_add-end
-overflow_add-end c =
-    let l = c.loop-j in
-    let n = rw (l.invariant.5 l.j (omega arith)) at c.discarded.ensures in
-    omega (arith, n, discarded-few (node_state c.args.s l.j), c.requires.round_lt_last_round.2.few l.j (omega arith))
 
 pub loop-p-init : goal.loop-p-init
 loop-p-init c =
@@ -69,17 +63,15 @@ loop-p-init c =
     let k = owed-fits a.e op a.bytes.now a.size c.requires.round_lt_last_round.2 c.requires.pending_at g.1 g.2 r.0 l.j (omega arith) in
     let news = news_to a.e l.j a.owner (is_off d) op a.bytes.now in
     let few = c.requires.round_lt_last_round.2.few l.j (omega arith) in
-    let same = l.invariant.5 l.j (omega arith) in
+    let same = l.invariant.same l.j (omega arith) in
     let n = rw same at c.discarded.ensures in
     let t = rw same at c.tell-to.ensures in
-    let o = length_over (4_096 * l.j + d.fill) news l.queues (omega (arith, k, r.1, l.invariant.4)) in (
-      omega arith,
-      omega arith,
-      omega (arith, n, few, discarded-few d),
-      refl,
-      rw (n, add-sub_cancel_left, t.queues_after, t.value) (omega (arith, k, r.1, l.invariant.4, o)),
-      refl,
-    )
+    let o = length_over (4_096 * l.j + d.fill) news l.queues (omega (arith, k, r.1, l.auto.queues)) in
+    record {
+      few = omega (arith, n, few, discarded-few d);
+      laid = refl;
+      room = rw (n, add-sub_cancel_left, t.queues_after, t.value) (omega (arith, k, r.1, l.auto.queues, o));
+    }
 
 pub put_notice-to-requires : goal.put_notice-to-requires
 put_notice-to-requires c =
@@ -90,11 +82,11 @@ put_notice-to-requires c =
     let few = discarded-few (node_state a.s l.j) in
     let end = 4 * l.j + c.discarded.result in
     let x = notices_next a.ids slot m.p end (omega arith) in
-    let n = rw (l.invariant.5 l.j (omega arith)) at c.discarded.ensures in (
-      c.requires.round_lt_last_round.2.lawful l.j (omega arith) m.p m.invariant.0 (omega (arith, n, few)),
+    let n = rw (l.invariant.same l.j (omega arith)) at c.discarded.ensures in (
+      c.requires.round_lt_last_round.2.lawful l.j (omega arith) m.p (omega arith) (omega (arith, n, few)),
       omega (
         arith,
-        m.invariant.4,
+        m.invariant.room,
         ap length x,
         length-append (notice_of (eqb m.p slot) (get_or a.ids m.p 0))
             (notices_but a.ids slot (suc m.p) (end - suc m.p)),
@@ -113,15 +105,14 @@ loop-p-preserved c =
     let x = notices_next a.ids slot m.p end (omega arith) in
     let k = length-append first rest in
     let e = c.put_notice-to.ensures in
-    let h = length_over m.to first m.queues (omega (arith, m.invariant.4, ap length x, k)) in (
-      omega arith,
-      omega arith,
-      m.invariant.2,
-      rw (e.queues_after, e.value, add-one m.p)
-          (over-over m.queues first rest m.to (omega (arith, m.invariant.4)) ∙ ap (over m.queues m.to) (sym x) ∙ m.invariant.3),
-      rw (e.queues_after, e.value, add-one m.p) (omega (arith, m.invariant.4, ap length x, k, h)),
-      ap length e.queues_after ∙ h ∙ m.invariant.5,
-    )
+    let h = length_over m.to first m.queues (omega (arith, m.invariant.room, ap length x, k)) in
+    record {
+      few = m.invariant.few;
+      laid =
+          rw (e.queues_after, e.value, add-one m.p)
+          (over-over m.queues first rest m.to (omega (arith, m.invariant.room)) ∙ ap (over m.queues m.to) (sym x) ∙ m.invariant.laid);
+      room = rw (e.queues_after, e.value, add-one m.p) (omega (arith, m.invariant.room, ap length x, k, h));
+    }
 
 pub entry_after-requires : goal.entry_after-requires
 entry_after-requires c =
@@ -129,7 +120,7 @@ entry_after-requires c =
     let l = c.loop-j in
     let g = c.requires.writable in
     let room = room_at a.e a.s.nodes a.owner a.size a.s.count c.requires.count_value.0 l.j (omega arith) in
-    rw (l.invariant.5 l.j (omega arith)) (
+    rw (l.invariant.same l.j (omega arith)) (
       own-pending a.s l.j a.owner (omega (arith, c.requires.pending_at.1)),
       omega (arith, g.2, g.0.short, head_small (held_in (content_of a.winner))),
       room,
@@ -151,38 +142,33 @@ loop-j-preserved c =
     let told = notices_but a.ids slot (4 * l.j) (discarded d) in
     let h = length-append news told in
     let m = c.loop-p in
-    let same = l.invariant.5 l.j (omega arith) in
+    let same = l.invariant.same l.j (omega arith) in
     let t = rw same at c.tell-to.ensures in
     let end = 4 * l.j + c.discarded.result in
     let at = 4_096 * l.j + d.fill in
-    let x = sym (over_none m.queues m.to) ∙ ap (over m.queues m.to) (sym (notices_end a.ids slot m.p end (omega arith))) ∙ m.invariant.3 in
+    let x = sym (over_none m.queues m.to) ∙ ap (over m.queues m.to) (sym (notices_end a.ids slot m.p end (omega arith))) ∙ m.invariant.laid in
     let y = rw (rw same at c.discarded.ensures, add-sub_cancel_left) at x in
-    let z = in_two l.queues news told at (omega (arith, k, r.1, l.invariant.4)) t.queues_after t.value y in
-    let o = length_over at (owed_to a.e d l.j a.owner a.position op a.ids a.bytes.now) l.queues (omega (arith, k, h, r.1, l.invariant.4))
-    in (
-      omega arith,
-      omega arith,
-      rw (add-one l.j, rw same at c.entry_after.ensures)
-          (sym (entries_next a.e a.s.nodes a.owner a.size l.j a.s.count l.after (omega arith)) ∙ l.invariant.2),
-      rw (add-one l.j, z)
-          (sym (queues-next a.e a.s.nodes a.owner a.position op a.ids a.bytes.now l.j a.s.count l.queues (omega arith)) ∙ l.invariant.3),
-      ap length z ∙ o ∙ l.invariant.4,
-      λ i h. get_or-set_other l.after l.j i _ no_node (λ e. omega arith) ∙ l.invariant.5 i (omega arith),
-    )
+    let z = in_two l.queues news told at (omega (arith, k, r.1, l.auto.queues)) t.queues_after t.value y in
+    record {
+      entries =
+          rw (add-one l.j, rw same at c.entry_after.ensures)
+          (sym (entries_next a.e a.s.nodes a.owner a.size l.j a.s.count l.after (omega arith)) ∙ l.invariant.entries);
+      queues =
+          rw (add-one l.j, z)
+          (sym (queues-next a.e a.s.nodes a.owner a.position op a.ids a.bytes.now l.j a.s.count l.queues (omega arith)) ∙ l.invariant.queues);
+      same = λ i h. get_or-set_other l.after l.j i _ no_node (λ e. omega arith) ∙ l.invariant.same i (omega arith);
+    }
 
 pub overflow_add-result : goal.overflow_add-result
 overflow_add-result c = omega (arith, c.requires.round_lt_last_round.0)
-
-pub shape_of-queues : goal.shape_of-queues
-shape_of-queues c = c.loop-j.invariant.4
 
 pub returns : goal.returns
 unfolding state_after
 returns c =
     let a = c.args in
     let l = c.loop-j in
-    let p = sym (entries-end a.e a.s.nodes a.owner a.size l.j a.s.count l.after (omega arith)) ∙ l.invariant.2 in
+    let p = sym (entries-end a.e a.s.nodes a.owner a.size l.j a.s.count l.after (omega arith)) ∙ l.invariant.entries in
     let q =
     sym (queues-end a.e a.s.nodes a.owner a.position (held_in (content_of a.winner)) a.ids a.bytes.now l.j a.s.count l.queues (omega arith))
-    ∙ l.invariant.3 in
+    ∙ l.invariant.queues in
     record { value = rw p; queues_after = q }

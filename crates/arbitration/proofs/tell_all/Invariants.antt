@@ -1,5 +1,5 @@
--- The invariants: the entries and the queues from j on become what all do, and the queues' length is as it was; for one node, the
--- notices from p on, laid from `to` on, give the same as all of its.
+-- The invariants: the entries and the queues from j on become what all do; for one node, the notices from p on, laid from `to` on,
+-- give the same as all of its.
 use Prim.Native.Nat.{ℕ, ◌+◌, ◌≤◌, ◌-◌}
 use Rattle.arbitration.specs.After.{entries_after, queues_after}
 use Rattle.bus_state.specs.Memory.{node_state, no_node}
@@ -11,28 +11,21 @@ use mathlib.Core.Path.{◌≡◌}
 use Rattle.arbitration.proofs.tell_all.Given as goal
 
 abbrev pub invariant-loop-p : goal.invariant-loop-p
-invariant-loop-p l =
-    (l.initial.p ≤ l.p)
-    × (l.p ≤ l.end)
-    × (l.end ≤ 32)
-    × (over l.queues l.to (notices_but l.ids l.slot l.p (l.end - l.p))
-    ≡ over l.initial.queues l.initial.to (notices_but l.ids l.slot l.initial.p (l.end - l.initial.p)))
-    × (l.to + length (notices_but l.ids l.slot l.p (l.end - l.p)) ≤ length l.queues)
-    × (length l.queues ≡ length l.initial.queues)
-
-abbrev pub decreases-loop-p : goal.decreases-loop-p
-decreases-loop-p l = l.end - l.p
+invariant-loop-p l = record {
+  few : l.p-end ≤ 32;
+  laid :
+      over l.queues l.to (notices_but l.ids l.slot l.p (l.p-end - l.p))
+      ≡ over l.initial.queues l.initial.to (notices_but l.ids l.slot l.first (l.p-end - l.first));
+  room : l.to + length (notices_but l.ids l.slot l.p (l.p-end - l.p)) ≤ length l.queues;
+}
 
 abbrev pub invariant-loop-j : goal.invariant-loop-j
-invariant-loop-j l =
-    (l.j ≤ l.count)
-    × (l.count ≤ 8)
-    × (entries_after l.e l.s.nodes l.owner l.size l.j (l.count - l.j) l.after
-    ≡ entries_after l.e l.s.nodes l.owner l.size 0 l.count l.s.nodes)
-    × (queues_after l.e l.s.nodes l.owner l.position (held_in (content_of l.winner)) l.ids l.bytes l.j (l.count - l.j) l.queues
-    ≡ queues_after l.e l.s.nodes l.owner l.position (held_in (content_of l.winner)) l.ids l.bytes 0 l.count l.initial.queues)
-    × (length l.queues ≡ length l.initial.queues)
-    × ((i : ℕ) → l.j ≤ i → get_or l.after i no_node ≡ node_state l.s i)
-
-abbrev pub decreases-loop-j : goal.decreases-loop-j
-decreases-loop-j l = l.count - l.j
+invariant-loop-j l = record {
+  entries :
+      entries_after l.e l.s.nodes l.owner l.size l.j (l.count - l.j) l.after
+      ≡ entries_after l.e l.s.nodes l.owner l.size 0 l.count l.s.nodes;
+  queues :
+      queues_after l.e l.s.nodes l.owner l.position (held_in (content_of l.winner)) l.ids l.bytes l.j (l.count - l.j) l.queues
+      ≡ queues_after l.e l.s.nodes l.owner l.position (held_in (content_of l.winner)) l.ids l.bytes 0 l.count l.initial.queues;
+  same : (i : ℕ) → l.j ≤ i → get_or l.after i no_node ≡ node_state l.s i;
+}

@@ -11,4 +11,4 @@ loop-p-preserved c =
 pub returns : goal.returns
 returns c =
     let n = steps_end c.args.slots.now c.args.j c.loop-p.p (4 * c.args.j + c.args.n) c.loop-p.run c.loop-p-test.false in
-    rw (c.key_of.ensures, ← n, c.loop-p.invariant)
+    rw (c.end.ensures, ← n, c.loop-p.invariant)

@@ -14,8 +14,6 @@ loop-j-preserved c =
       c.frames_key-key.ensures,
       c.entry_key.ensures,
       c.frame_count.ensures.0,
-      c.round_of-round.ensures,
-      c.entries_of-nodes.ensures,
       add-one,
       n,
     ) c.loop-j.invariant
