@@ -27,19 +27,15 @@ fn print_next(out: Stdout, s: &[u8], at: usize) -> usize
     requires { at < length s.now }
     ensures { (at < result) × (result ≤ length s.now) }
 {
-    let cursor = Cursor { at };
-    match cursor.read(s) {
-        Reading::AtEnd => s.len(),
-        Reading::Faulty { number, next } => {
-            let end = next.at;
-            report::fault(report::begin(out, at), number, &s[at..end]);
-            end
-        }
-        Reading::Read { op, next } => {
-            report::operation(report::begin(out, at), op, decoder::data(s, op, next));
-            next.at
-        }
+    let Some(Reading { item, next }) = (Cursor { at }).read(s) else {
+        return s.len();
+    };
+    let line = report::begin(out, at);
+    match item {
+        Ok(op) => report::operation(line, op, decoder::data(s, op, next)),
+        Err(fault) => report::fault(line, fault.number(), &s[at..next.at]),
     }
+    next.at
 }
 
 fn print_all(out: Stdout, s: &[u8]) {
