@@ -146,16 +146,16 @@ impl OpenFrames {
             → update_of result self.new ≡ updates g (items_of buffer.now) (updated self.old) }
     {
         let mut cursor = Cursor { at: 0 };
-        loop {
-            match cursor.read(buffer) {
-                Reading::AtEnd => return Ok(()),
-                Reading::Faulty { next, .. } => cursor = next,
-                Reading::Read { op, next } => {
+        while let Some(Reading { item, next }) = cursor.read(buffer) {
+            match item {
+                Ok(op) => {
                     step(self, op)?;
                     cursor = next;
                 }
+                Err(_) => cursor = next,
             }
         }
+        Ok(())
     }
 }
 
