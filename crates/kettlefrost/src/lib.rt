@@ -351,20 +351,17 @@ pub fn kf_write(operation: FlatOperation, payload: &[u8], buffer: &mut [u8]) -> 
     }
 }
 
-const SLOTS: usize = bus_state::SLOT_COUNT;
-
-// The calls of the bus. A start loads the lent slots and stores them. The others go over the pending ones once, in place, call the bus
-// with that pass's key and what they need of the slots, and put back those that changed.
+// The calls of the bus. They go over the pending slots once, in place, call the bus with that pass's key and what they need of the slots,
+// and put back those that changed; a start sets all of them.
 
 pub fn kf_start(slots: &mut [Slot], payload: &[u8], queues: &[u8], count: u32) -> Answer
     ensures { left result slots.new payload.now queues.now ≡ leaves (start_in (held (new_state 0) slots.old payload.now queues.now) count) }
 {
-    if slots.len() != SLOTS {
+    let Ok(lent) = <&[Slot; 32]>::try_from(&*slots) else {
         return bus::no_start();
-    }
-    let a = lent_slots::load(slots);
-    let c = bus::start(a, payload, queues, count);
-    lent_slots::store(slots, bus::slots_started(c));
+    };
+    let c = bus::start(*lent, payload, queues, count);
+    slots.copy_from_slice(&bus::slots_started(c));
     bus::answer_started(c)
 }
 
@@ -378,13 +375,13 @@ pub fn kf_submit(
 ) -> Answer
     ensures { left result slots.new payload.new queues.new ≡ leaves (submit_in (held state slots.old payload.old queues.old) node buffer.now) }
 {
-    if slots.len() != SLOTS {
+    let Ok(lent) = <&[Slot; 32]>::try_from(&*slots) else {
         return bus::wrong_memory(state);
-    }
+    };
     // Read before the pass, which goes on while they are copied.
     let at = submission::first_slot(node);
-    let four = lent_slots::block_at(slots, at);
-    let key = lent_scan::scan(slots, state);
+    let four = lent_slots::block_at(lent, at);
+    let key = lent_scan::scan(lent, state);
     let c = bus::submit(state, key, four, payload, queues, node, buffer);
     lent_scan::finish(slots, c)
 }
@@ -400,14 +397,14 @@ pub fn kf_round(
 ) -> Answer
     ensures { left result slots.new payload.new queues.new ≡ leaves (round_in (held state slots.old payload.old queues.old) (injection_from injected code detector)) }
 {
-    if slots.len() != SLOTS {
+    let Ok(lent) = <&[Slot; 32]>::try_from(&*slots) else {
         return bus::wrong_memory(state);
-    }
+    };
     // Read before the pass, which goes on while they are copied.
-    let ids = lent_slots::ids(slots);
-    let key = lent_scan::scan(slots, state);
+    let ids = lent_slots::ids(lent);
+    let key = lent_scan::scan(lent, state);
     let at = scan::winner_block(key);
-    let four = lent_slots::block_at(slots, at);
+    let four = lent_slots::block_at(lent, at);
     let c = bus::round(
         state, key, four, ids, payload, queues, injected, code, detector,
     );
