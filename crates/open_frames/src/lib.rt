@@ -147,13 +147,10 @@ impl OpenFrames {
     {
         let mut cursor = Cursor { at: 0 };
         while let Some(Reading { item, next }) = cursor.read(buffer) {
-            match item {
-                Ok(op) => {
-                    step(self, op)?;
-                    cursor = next;
-                }
-                Err(_) => cursor = next,
+            if let Ok(op) = item {
+                step(self, op)?;
             }
+            cursor = next;
         }
         Ok(())
     }
