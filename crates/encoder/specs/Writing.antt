@@ -23,7 +23,8 @@ written_number (Err BufferTooSmall) = 11
 -- its header and data
 unfoldable pub decision : Bool → ℕ → ℕ → ℕ → ℕ → Written
 decision lawful head said given room =
-    cond (lawful && eqb given said && leb given 65_535) (cond (leb (head + said) room) (Ok (head + said)) (Err BufferTooSmall)) (Err RuleBroken)
+    cond (lawful && eqb given said && leb given 65_535)
+    (cond (leb (head + said) room) (Ok (head + said)) (Err BufferTooSmall)) (Err RuleBroken)
 
 -- the answer, for so many data bytes and a buffer of so many bytes
 unfoldable pub write_outcome : Operation → ℕ → ℕ → Written
