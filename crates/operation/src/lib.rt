@@ -4,7 +4,7 @@
 
 ghost use Rattle.std.specs.Prelude.{◌≡◌, ◌≤◌, ◌&&◌};
 ghost use Rattle.operation.specs.Format.{head_length, data_length, configuration_length};
-ghost use Rattle.operation.specs.Tables.{code_from, error_code_from, error_flag_from, status_from, configuration_kind_from, behaviour_from};
+ghost use Rattle.operation.specs.Tables.{code_number, code_from, error_code_from, error_flag_from, status_from, configuration_kind_from, behaviour_from};
 ghost use Rattle.operation.specs.Tables.{error_code_name, error_flag_name, status_name, configuration_kind_name, behaviour_name};
 ghost use Rattle.operation.specs.Rules.{is_bit, max_id, one_of, fd_length, can_length, remote_rule, error_codes, error_flags, behaviours, setting_rule, legal};
 
@@ -52,6 +52,15 @@ impl TryFrom<u32> for Code {
             0x42 => Ok(Code::Wakeup),
             _ => Err(NotInTable),
         }
+    }
+}
+
+impl From<Code> for u32 {
+    ghost from_gives = { λ code x. x ≡ code_number code };
+
+    #[inline(always)]
+    fn from(code: Code) -> u32 {
+        code as u32
     }
 }
 
