@@ -170,16 +170,6 @@ fn put_operation(op: Operation, bytes: &[u8], buffer: &mut [u8], at: usize)
     let _ = encoder::write(op, bytes, &mut buffer[at..]);
 }
 
-// The Error Flag at a node: the primary one where the error is detected.
-fn flag_at(j: usize, detector: u32) -> u8
-    ensures { result ≡ flag_at j detector }
-{
-    if j == detector as usize {
-        return operation::PRIMARY_ERROR_FLAG;
-    }
-    operation::SECONDARY_ERROR_FLAG
-}
-
 // Arbitration Lost for a frame by its ID, unless it is the winner; answers the place after it.
 fn put_notice(id: u32, wins: bool, queues: &mut [u8], at: usize) -> usize
     requires { (id ≤ max_extended_id) × (at + length (notice_of wins id) ≤ length queues.old) }
@@ -194,6 +184,16 @@ fn put_notice(id: u32, wins: bool, queues: &mut [u8], at: usize) -> usize
 }
 
 // ---- what a round tells
+
+// The Error Flag at a node: the primary one where the error is detected.
+fn flag_at(j: usize, detector: u32) -> u8
+    ensures { result ≡ flag_at j detector }
+{
+    if j == detector as usize {
+        return operation::ErrorFlag::Primary as u8;
+    }
+    operation::ErrorFlag::Secondary as u8
+}
 
 // What a round is about: the Transmit that won, with its ID, its length and its data, its sender, and the error injected into it.
 #[derive(Clone, Copy)]
@@ -266,31 +266,29 @@ impl<'a> News<'a> {
         requires { at + length (news_to self.now.error j self.now.owner off self.now.op self.now.bytes.now) ≤ length queues.old }
         ensures { queues.new ≡ over queues.old at (news_to self.now.error j self.now.owner off self.now.op self.now.bytes.now) }
     {
+        let mine = j == self.owner;
         let error = self.error;
-        match error {
-            None => {
-                if j == self.owner {
-                    put_operation(Operation::Confirm { id: self.id }, b"", queues, at);
-                    return;
-                }
-                if off {
-                    return;
-                }
-                put_operation(self.op, self.bytes, queues, at);
+        if let Some(Injection { code, detector }) = error {
+            if off {
+                return;
             }
-            Some(Injection { code, detector }) => {
-                if off {
-                    return;
-                }
-                let op = Operation::BusError {
-                    id: self.id,
-                    error_code: code as u8,
-                    error_flag: flag_at(j, detector),
-                    is_sender: (j == self.owner) as u8,
-                };
-                put_operation(op, b"", queues, at);
-            }
+            let op = Operation::BusError {
+                id: self.id,
+                error_code: code as u8,
+                error_flag: flag_at(j, detector),
+                is_sender: mine as u8,
+            };
+            put_operation(op, b"", queues, at);
+            return;
         }
+        if mine {
+            put_operation(Operation::Confirm { id: self.id }, b"", queues, at);
+            return;
+        }
+        if off {
+            return;
+        }
+        put_operation(self.op, self.bytes, queues, at);
     }
 
     // Writes what node j is told of the winner behind the fill of its queue, and answers the place after it.

@@ -4,83 +4,70 @@ use Rattle.arbitration.proofs.Told.{confirm-lawful, error_lawful, legal_code, co
 use Rattle.arbitration.proofs.Told.{news_own, news_none, news_other, news_silent, news_error}
 use Rattle.operation.proofs.Sizes.{encode-length}
 use Rattle.operation.specs.declared.Operation.TheVariants.{Confirm, BusError}
-use Rattle.arbitration.specs.Owed.{own, flag_at}
+use Rattle.arbitration.specs.Owed.{own}
 use lib.Dec.{eqb}
 use mathlib.Core.Bool.{cond}
 use mathlib.Core.List.{[]}
-use mathlib.Core.Path.{◌≡◌, refl, sym}
+use mathlib.Core.Path.{refl, sym}
 use native.Mathlib.Omega.{arith}
 use Rattle.arbitration.proofs.News.put.Goals as goal
 
-pub put_operation-requires : goal.put_operation-requires
-put_operation-requires c =
-    let a = c.args in
-    let n = a.self.now in
-    let w = news_own a.j n.owner a.off n.op n.bytes.now c.in-None.is c.if-j-self.true in
-    let l = encode-length (Confirm n.id) [] in
-    record { op_value = (confirm-lawful _ n.low, refl, omega arith); op_in_bounds = omega (arith, rw (w, ← n.named, l) at c.requires) }
-
-pub returns-then-j-self : goal.returns-then-j-self
-returns-then-j-self c =
-    let a = c.args in
-    let n = a.self.now in
-    let w = news_own a.j n.owner a.off n.op n.bytes.now c.in-None.is c.if-j-self.true in
-    rw (w, ← n.named) c.put_operation.ensures
-
 pub returns-then-off : goal.returns-then-off
 returns-then-off c =
-    let a = c.args in
-    let n = a.self.now in
-    rw (news_none a.j n.owner a.off n.op n.bytes.now c.in-None.is c.if-j-self.false c.if-off.true)
-    (sym (over_none _ _))
-
-pub put_operation-requires-in-None : goal.put_operation-requires-in-None
-put_operation-requires-in-None c =
-    let a = c.args in
-    let n = a.self.now in
-    let w = news_other a.j n.owner a.off n.op n.bytes.now c.in-None.is c.if-j-self.false c.if-off.false in
-    let l = encode-length n.op n.bytes.now in
-    record {
-      op_value = (n.lawful, n.whole, n.short);
-      op_in_bounds = omega (arith, rw (w, l, n.whole) at c.requires);
-    }
-
-pub returns-then-off-2 : goal.returns-then-off-2
-returns-then-off-2 c =
-    let a = c.args in
-    let n = a.self.now in
-    rw (news_silent a.j n.owner a.off n.op n.bytes.now c.in-Some.is c.if-off-2.true) (sym (over_none _ _))
+    let n = c.args.self.now in
+    rw (news_silent c.args.j n.owner c.args.off n.op n.bytes.now c.in-Some.is c.if-off.true) (sym (over_none _ _))
 
 pub overflow_cast-op : goal.overflow_cast-op
 overflow_cast-op c =
     let n = c.args.self.now in
     omega (arith, code_small _ (legal_code c.in-Some.is n.in_table))
 
-pub put_operation-requires-in-Some : goal.put_operation-requires-in-Some
-put_operation-requires-in-Some c =
-    let a = c.args in
-    let n = a.self.now in
-    let k = legal_code c.in-Some.is n.in_table in
-    let w = news_error a.j n.owner a.off n.op n.bytes.now c.in-Some.is c.if-off-2.false in
-    let flag = cond (eqb a.j c.in-Some.field-0.detector) 1 2 in
-    let l = encode-length (BusError n.id c.in-Some.field-0.code flag (own (eqb a.j n.owner))) [] in
-    let f : c.flag_at.result ≡ flag_at a.j c.in-Some.field-0.detector = c.flag_at.ensures in
-    rw (f, byte_own) (record {
-      op_value = (error_lawful n.id c.in-Some.field-0.code (eqb a.j c.in-Some.field-0.detector) (eqb a.j n.owner) n.low k, refl, omega arith);
+pub put_operation-requires : goal.put_operation-requires
+put_operation-requires c =
+    let j = c.args.j in
+    let n = c.args.self.now in
+    let i = c.in-Some.field-0 in
+    let w = news_error j n.owner c.args.off n.op n.bytes.now c.in-Some.is c.if-off.false in
+    let l = encode-length (BusError n.id i.code (cond (eqb j i.detector) 1 2) (own (eqb j n.owner))) [] in
+    rw (c.flag_at.ensures, byte_own)
+    (record {
+      op_value = (error_lawful n.id i.code (eqb j i.detector) (eqb j n.owner) n.low (legal_code c.in-Some.is n.in_table), refl, omega arith);
       op_in_bounds = omega (arith, rw (w, ← n.named, l) at c.requires);
     })
 
-pub returns-else-off : goal.returns-else-off
-returns-else-off c =
-    let a = c.args in
-    let n = a.self.now in
-    let w = news_other a.j n.owner a.off n.op n.bytes.now c.in-None.is c.if-j-self.false c.if-off.false in
-    rw w c.put_operation-in-None.ensures
+pub returns-in-Some : goal.returns-in-Some
+returns-in-Some c =
+    let n = c.args.self.now in
+    let w = news_error c.args.j n.owner c.args.off n.op n.bytes.now c.in-Some.is c.if-off.false in
+    rw (w, ← n.named, ← c.flag_at.ensures, ← byte_own) c.put_operation.ensures
 
-pub returns-else-off-2 : goal.returns-else-off-2
-returns-else-off-2 c =
-    let a = c.args in
-    let n = a.self.now in
-    let w = news_error a.j n.owner a.off n.op n.bytes.now c.in-Some.is c.if-off-2.false in
-    let f : c.flag_at.result ≡ flag_at a.j c.in-Some.field-0.detector = c.flag_at.ensures in
-    rw (w, ← n.named, ← f, ← byte_own) c.put_operation-in-Some.ensures
+pub put_operation-requires-then-mine : goal.put_operation-requires-then-mine
+put_operation-requires-then-mine c =
+    let n = c.args.self.now in
+    let w = news_own c.args.j n.owner c.args.off n.op n.bytes.now c.in_default.is c.if-mine.true in
+    let l = encode-length (Confirm n.id) [] in
+    record { op_value = (confirm-lawful _ n.low, refl, omega arith); op_in_bounds = omega (arith, rw (w, ← n.named, l) at c.requires) }
+
+pub returns-then-mine : goal.returns-then-mine
+returns-then-mine c =
+    let n = c.args.self.now in
+    let w = news_own c.args.j n.owner c.args.off n.op n.bytes.now c.in_default.is c.if-mine.true in
+    rw (w, ← n.named) c.put_operation-then-mine.ensures
+
+pub returns-then-off-2 : goal.returns-then-off-2
+returns-then-off-2 c =
+    let n = c.args.self.now in
+    rw (news_none c.args.j n.owner c.args.off n.op n.bytes.now c.in_default.is c.if-mine.false c.if-off-2.true) (sym (over_none _ _))
+
+pub put_operation-requires-2 : goal.put_operation-requires-2
+put_operation-requires-2 c =
+    let n = c.args.self.now in
+    let w = news_other c.args.j n.owner c.args.off n.op n.bytes.now c.in_default.is c.if-mine.false c.if-off-2.false in
+    let l = encode-length n.op n.bytes.now in
+    record { op_value = (n.lawful, n.whole, n.short); op_in_bounds = omega (arith, rw (w, l, n.whole) at c.requires) }
+
+pub returns : goal.returns
+returns c =
+    let n = c.args.self.now in
+    let w = news_other c.args.j n.owner c.args.off n.op n.bytes.now c.in_default.is c.if-mine.false c.if-off-2.false in
+    rw w c.put_operation-2.ensures
