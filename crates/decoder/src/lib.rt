@@ -7,7 +7,7 @@ ghost use Rattle.operation.specs.Rules.{legal};
 ghost use Rattle.decoder.specs.Front.{fault_number, format_error, can, fd, xl, confirm, arbitration_lost, bus_error, configuration, status, wakeup, setting_of, shape_of, too_short, verdict, judge, decode, whole_length, front};
 ghost use Rattle.decoder.specs.Reading.{read_at, data_at};
 
-use operation::{Code, Operation};
+use operation::{Code, ConfigurationKind, Operation};
 
 // What is wrong with the bytes at a position.
 #[derive(Clone, Copy, Debug, PartialEq, Eq)]
@@ -69,7 +69,12 @@ fn u32_at(t: &[u8], i: usize) -> u32
     requires { i + 3 < 2 ^ 64 }
     ensures { result ≡ number_at 4 t.now i }
 {
-    u32::from_le_bytes([byte_at(t, i), byte_at(t, i + 1), byte_at(t, i + 2), byte_at(t, i + 3)])
+    u32::from_le_bytes([
+        byte_at(t, i),
+        byte_at(t, i + 1),
+        byte_at(t, i + 2),
+        byte_at(t, i + 3),
+    ])
 }
 
 // The code that some bytes start with; bytes that are missing count as 0.
@@ -103,11 +108,7 @@ pub fn read_format_error(t: &[u8]) -> Result<Operation, Fault>
         return Err(Fault::WrongLength);
     }
     let n = u16_at(t, 8);
-    give_verdict(
-        size == 10 + n as usize,
-        true,
-        Operation::FormatError { n },
-    )
+    give_verdict(size == 10 + n as usize, true, Operation::FormatError { n })
 }
 
 pub fn read_can(t: &[u8]) -> Result<Operation, Fault>
@@ -239,13 +240,14 @@ pub fn read_bus_error(t: &[u8]) -> Result<Operation, Fault>
 fn setting_at(t: &[u8], kind: u8) -> u32
     ensures { result ≡ setting_of kind t.now }
 {
-    if kind == operation::ARBITRATION_LOST_BEHAVIOR {
+    if kind == ConfigurationKind::ArbitrationLostBehavior as u8 {
         u32::from(byte_at(t, 9))
     } else {
         u32_at(t, 9)
     }
 }
 
+#[tactic(auto, using(operation::proofs::Tables::configuration_kind_is_ok), unfolding(crate::specs::Front::shape_of, crate::specs::Front::verdict, crate::specs::Front::judge))]
 pub fn read_configuration(t: &[u8]) -> Result<Operation, Fault>
     ensures { result ≡ judge (length t.now) (shape_of configuration t.now) }
 {
@@ -257,7 +259,7 @@ pub fn read_configuration(t: &[u8]) -> Result<Operation, Fault>
     let value = setting_at(t, kind);
     let expected = operation::configuration_length(kind);
     let lawful = operation::configuration_is_legal(kind, value);
-    let known = (operation::CAN_BAUDRATE <= kind) & (kind <= operation::ARBITRATION_LOST_BEHAVIOR);
+    let known = ConfigurationKind::try_from(kind).is_ok();
     give_verdict(
         known & (size == expected),
         lawful,
@@ -339,9 +341,15 @@ pub fn read_front(s: &[u8]) -> Option<Front>
         return None;
     }
     if size < 8 {
-        return Some(Front { item: Err(Fault::TooFewLeft), size });
+        return Some(Front {
+            item: Err(Fault::TooFewLeft),
+            size,
+        });
     }
-    Some(Front { item: Err(Fault::BadLength), size })
+    Some(Front {
+        item: Err(Fault::BadLength),
+        size,
+    })
 }
 
 impl Cursor {
@@ -350,8 +358,13 @@ impl Cursor {
         ensures { result ≡ read_at s.now self.at }
     {
         let front = read_front(s.get(self.at..)?)?;
-        let next = Cursor { at: self.at + front.size };
-        Some(Reading { item: front.item, next })
+        let next = Cursor {
+            at: self.at + front.size,
+        };
+        Some(Reading {
+            item: front.item,
+            next,
+        })
     }
 }
 

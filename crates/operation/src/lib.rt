@@ -245,45 +245,6 @@ impl LostBehavior {
     }
 }
 
-// Error Code of a Bus Error.
-pub const BIT_ERROR: u8 = ErrorCode::BitError as u8;
-
-pub const BIT_STUFFING_ERROR: u8 = ErrorCode::BitStuffingError as u8;
-
-pub const FORM_ERROR: u8 = ErrorCode::FormError as u8;
-
-pub const CRC_ERROR: u8 = ErrorCode::CrcError as u8;
-
-pub const ACK_ERROR: u8 = ErrorCode::AckError as u8;
-
-pub const BROKEN_ERROR_FRAME: u8 = ErrorCode::BrokenErrorFrame as u8;
-
-// Error Flag of a Bus Error.
-pub const PRIMARY_ERROR_FLAG: u8 = ErrorFlag::Primary as u8;
-
-pub const SECONDARY_ERROR_FLAG: u8 = ErrorFlag::Secondary as u8;
-
-// Status.
-pub const ERROR_ACTIVE: u8 = NodeStatus::ErrorActive as u8;
-
-pub const ERROR_PASSIVE: u8 = NodeStatus::ErrorPassive as u8;
-
-pub const BUS_OFF: u8 = NodeStatus::BusOff as u8;
-
-// Kind of a Configuration. The first three carry a baud rate, the last a behaviour.
-pub const CAN_BAUDRATE: u8 = ConfigurationKind::CanBaudrate as u8;
-
-pub const CAN_FD_BAUDRATE: u8 = ConfigurationKind::CanFdBaudrate as u8;
-
-pub const CAN_XL_BAUDRATE: u8 = ConfigurationKind::CanXlBaudrate as u8;
-
-pub const ARBITRATION_LOST_BEHAVIOR: u8 = ConfigurationKind::ArbitrationLostBehavior as u8;
-
-// Arbitration Lost Behavior.
-pub const BUFFER_AND_RETRANSMIT: u32 = LostBehavior::BufferAndRetransmit as u32;
-
-pub const DISCARD_AND_NOTIFY: u32 = LostBehavior::DiscardAndNotify as u32;
-
 // Lengths: of operations without data, and of a Format Error but for the bytes that it answers.
 pub const CONFIRM_LENGTH: usize = 12;
 
