@@ -58,6 +58,7 @@ fn byte_at(t: &[u8], i: usize) -> u8
     t.get(i).copied().unwrap_or(0)
 }
 
+// Stays: two widths, a line each: from_le_bytes is a function of each type and of no trait.
 fn u16_at(t: &[u8], i: usize) -> u16
     requires { i + 1 < 2 ^ 64 }
     ensures { result ≡ number_at 2 t.now i }

@@ -5,7 +5,7 @@ use Rattle.std.proofs.Common.{Bool, true, false, not, cond, ◌||◌, ◌&&◌, 
 use Rattle.std.proofs.Common.{List, [], ◌∷◌, append-nil, length, take, length-append, length-take}
 use Rattle.std.proofs.Common.{◌≡◌, refl, sym, ◌∙◌}
 use Rattle.std.proofs.lemmas.Bool.Decides.{nat_tests}
-use Rattle.std.proofs.lemmas.List.{length-replicate, drop-replicate}
+use Rattle.std.proofs.lemmas.List.{length-replicate}
 use Rattle.std.proofs.Math.Seq.{length-take-le}
 use Rattle.std.specs.List.{position, position_or_len, list_all, remove}
 use mir.Val.{bool_byte}
@@ -116,5 +116,3 @@ pub ruleset closing = (closes_none, closes_at)
 pub off_is : (b : Bool) → bool_byte b ≡ cond b 1 0
 off_is true = refl
 off_is false = refl
-
-pub ruleset flat = (drop-replicate, off_is)

@@ -19,6 +19,7 @@ use std::marker::Model;
 pub const MAX_OPEN: usize = 345;
 
 // The first count of ids are the open ones, oldest first; off is not 0 where the node is Bus-Off.
+// Stays: the C interface hands a register over by its fields, which may hold any numbers (kf_register_enter).
 #[repr(C)]
 #[derive(Clone, Copy)]
 pub struct Register {
@@ -27,6 +28,7 @@ pub struct Register {
     pub off: u32,
 }
 
+// Stays: the C interface has a number beside the register (kf_register_enter).
 #[repr(C)]
 #[derive(Clone, Copy)]
 pub struct RegisterAnswer {
@@ -147,13 +149,10 @@ impl OpenFrames {
     {
         let mut cursor = Cursor { at: 0 };
         while let Some(Reading { item, next }) = cursor.read(buffer) {
-            match item {
-                Ok(op) => {
-                    step(self, op)?;
-                    cursor = next;
-                }
-                Err(_) => cursor = next,
+            if let Ok(op) = item {
+                step(self, op)?;
             }
+            cursor = next;
         }
         Ok(())
     }
@@ -180,7 +179,6 @@ impl From<OpenFrames> for Register {
     ghost from_gives = { λ frames register. register ≡ record_of frames };
 
     // 0 past the open IDs.
-    #[tactic(auto, using(crate::proofs::Opened::flat), unfolding(crate::specs::Record::record_of))]
     fn from(frames: OpenFrames) -> Register {
         let count = frames.ids.len();
         let mut ids = [0; MAX_OPEN];
