@@ -3,7 +3,7 @@
 use mathlib.Core.Path.{◌≡◌, refl, sym, ap, ◌∙◌}
 use mathlib.Core.Bool.{Bool, true, false, cond, ◌&&◌}
 use mathlib.Core.List.{List, [], ◌∷◌, append-nil}
-use Prim.Native.Nat.{ℕ, ◌+◌, ◌≤◌, ◌<◌}
+use Prim.Native.Nat.{ℕ, ◌+◌, ◌≤◌}
 use native.Mathlib.Omega.{arith}
 use lib.Dec.{leb, eqb}
 use lib.ListN.{length, take, drop}
@@ -12,9 +12,9 @@ use borrow.Author.Tests.{leb-true, eqb-true, le-leb, eq-eqb}
 use Rattle.operation.specs.Format.{head_length, data_length, length_of, header, encode}
 use Rattle.operation.specs.Rules.{all_after, rules, legal}
 use Rattle.operation.specs.declared.Operation.{Operation}
-use Rattle.operation.specs.declared.Operation.TheVariants.{FormatError, XlTransmit, Wakeup}
-use Rattle.operation.proofs.Tests.{both, passed}
-use Rattle.operation.proofs.Sizes.{head_small, header-length, encode-length}
+use Rattle.operation.specs.declared.Operation.TheVariants.{FormatError, Wakeup}
+use Rattle.operation.proofs.Tests.{both}
+use Rattle.operation.proofs.Sizes.{header-length, encode-length}
 use Rattle.std.specs.Prelude.{Ok, Err}
 use Rattle.std.specs.Result.{IsErrAnd}
 use Rattle.std.proofs.lemmas.Result.{err_from_is_err_and}
@@ -23,12 +23,6 @@ use Rattle.encoder.specs.declared.WriteError.{WriteError}
 use Rattle.encoder.specs.declared.WriteError.TheVariants.{RuleBroken, BufferTooSmall}
 use Rattle.buffers.specs.Parts.{over}
 use Rattle.buffers.proofs.Laying.{behind}
-
--- data of the length that a 16-bit field says are not above 65,535 bytes
-pub short : (a : Bool) (given said : ℕ) → (a && eqb given said) ≡ true → said < 65536 → leb given 65_535 ≡ true
-short a given said e h =
-    let q : given ≡ said = eqb-true given said (both a (eqb given said) e).1 in
-    le-leb given 65535 (omega arith)
 
 pub record Accepted (op : Operation) (given room n : ℕ) : Type 0 where
   pub size : n ≡ length_of op
@@ -75,15 +69,6 @@ format_error-lawful n = refl
 pub wakeup-lawful : true ≡ legal Wakeup
 unfolding legal rules all_after
 wakeup-lawful = refl
-
--- an accepted write is short
-pub size_small : {op : Operation} {given room n : ℕ} → Accepted op given room n → n < 65558
-size_small {op} a = omega (arith, a.size, a.whole, a.short, head_small op)
-
--- the data of a CAN XL frame
-pub xl-short : (id ide sec sdt vcid af dl : ℕ) → legal (XlTransmit id ide sec sdt vcid af dl) ≡ true → dl ≤ 2_048
-unfolding legal rules
-xl-short id ide sec sdt vcid af dl l = leb-true dl 2_048 (both (leb 1 dl) (leb dl 2_048) (passed _ l 3)).1
 
 -- the header at the front and the data behind it are the operation, written
 pub done : (op : Operation) (payload l : List ℕ) {l₁ l₂ : List ℕ} {n : ℕ} → Ok n ≡ write_outcome op (length payload) (length l)
