@@ -1,13 +1,13 @@
 -- What a valid state says of each attached node: its fill, and its frames, of which everything can be written.
 -- Assumes nothing.
 use mathlib.Core.Path.{◌≡◌, refl}
-use mathlib.Core.Bool.{Bool, true, false}
+use mathlib.Core.Bool.{true}
 use mathlib.Core.List.{List}
 use Prim.Native.Nat.{ℕ, ◌+◌, ◌*◌, ◌≤◌, ◌<◌}
 use native.Mathlib.Omega.{arith}
-use lib.Dec.{leb, eqb}
+use lib.Dec.{leb}
 use lib.ListN.{get_or}
-use borrow.Author.Tests.{leb-true, eqb-true}
+use borrow.Author.Tests.{leb-true}
 use Rattle.operation.specs.Kinds.{id_of}
 use Rattle.operation.specs.Rules.{max_id, rules, legal}
 use Rattle.operation.specs.declared.Operation.TheVariants.{CanTransmit, FdTransmit, XlTransmit}
@@ -22,7 +22,7 @@ use Rattle.bus_state.specs.declared.State.{State}
 use Rattle.bus_state.proofs.Validity.{slots_at, valid-count, valid_node_at}
 use Rattle.bus_model.proofs.Lawful.{max_id_lem}
 use Rattle.scan.specs.Winner.{held_at}
-use Rattle.arbitration.specs.Owed.{Writable, own}
+use Rattle.arbitration.specs.Owed.{Writable}
 
 -- ---- a frame that meets the content rules
 
@@ -87,11 +87,3 @@ module _ (s : State) (a : List Slot) (v : valid_state s a ≡ true) where
         past = λ q l. (f q l).most;
         owned = λ q l. (f q l).owner;
       }
-
--- the owner of a pending frame has one to remove
-pub own-pending : (s : State) (j owner : ℕ) → 1 ≤ (node_state s owner).pending → own (eqb j owner) ≤ (node_state s j).pending
-own-pending s j owner h = go (eqb j owner) refl
-  where
-    go : (t : Bool) → eqb j owner ≡ t → own t ≤ (node_state s j).pending
-    go true e = rw (eqb-true j owner e) h
-    go false e = omega arith

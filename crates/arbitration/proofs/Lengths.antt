@@ -13,7 +13,7 @@ use Rattle.operation.specs.Format.{data_length, length_of, encode}
 use Rattle.operation.specs.Kinds.{id_of}
 use Rattle.operation.specs.declared.Operation.{Operation}
 use Rattle.operation.specs.declared.Operation.TheVariants.{Confirm, ArbitrationLost, BusError}
-use Rattle.operation.proofs.Sizes.{encode-length}
+use Rattle.operation.proofs.Sizes.{head_small, encode-length}
 use Rattle.bus_state.specs.Memory.{node_state, is_off}
 use Rattle.bus_state.specs.declared.State.{State}
 use Rattle.bus_state.specs.declared.NodeState.{NodeState}
@@ -26,6 +26,10 @@ news_short None false true size h = omega arith
 news_short None false false size h = h
 news_short (Some i) mine true size h = omega arith
 news_short (Some i) mine false size h = omega arith
+
+-- a Transmit whose data fit a slot is short
+pub size_short : (op : Operation) {size : ℕ} → size ≡ length_of op → data_length op ≤ 2_048 → size ≤ 2_070
+size_short op q h = omega (arith, head_small op)
 
 -- no more are discarded than are pending
 pub discarded-few : (d : NodeState) → discarded d ≤ d.pending

@@ -3,6 +3,7 @@
 #![tactic(auto)]
 
 ghost use Rattle.std.specs.Prelude.{◌≡◌, true, List, [], ◌+◌, ◌-◌, ◌*◌, ◌≤◌, ◌<◌, length, Option, Some};
+ghost use Rattle.operation.specs.Kinds.{id_of};
 ghost use Rattle.operation.specs.Format.{data_length, length_of, encode};
 ghost use Rattle.operation.specs.Rules.{legal, max_extended_id};
 ghost use Rattle.buffers.specs.Parts.{over};
@@ -17,7 +18,7 @@ ghost use Rattle.outcome.specs.Ended.{ended_by, ended};
 ghost use Rattle.arbitration.specs.Injections.{injection_of, has_legal_code, is_wrong};
 ghost use Rattle.scan.specs.Winner.{held_at, owner_of};
 ghost use Rattle.arbitration.specs.Drawn.{Drawn};
-ghost use Rattle.arbitration.specs.Owed.{Writable, Frames, Tellable, PendingAt, discards, discarded, own, told_count, stay_count, flag_at, news_to, notice_of, news_length, owed_length, room_from};
+ghost use Rattle.arbitration.specs.Owed.{Writable, Frames, Tellable, PendingAt, discards, discarded, losers, told_count, stay_count, flag_at, news_to, notice_of, news_length, owed_length, room_from};
 ghost use Rattle.arbitration.specs.After.{entry_after, state_after, queues_after, source, block_without, payload_without};
 ghost use Rattle.arbitration.specs.Round.{carried_out};
 
@@ -117,7 +118,7 @@ fn move_data(payload: &mut [u8], four: [Slot; 4], at: usize, position: usize, la
 fn discards(d: NodeState) -> bool
     ensures { result ≡ discards d }
 {
-    d.behaviour as u32 == operation::DISCARD_AND_NOTIFY
+    d.behaviour as u32 == operation::LostBehavior::DiscardAndNotify as u32
 }
 
 // How many frames a node that discards has no more, the winner among them.
@@ -130,75 +131,32 @@ fn discarded(d: NodeState) -> u8
     0
 }
 
+// How many frames a node has pending besides the winner.
+#[tactic(auto, using(crate::proofs::Bytes::byte_own))]
+fn losers(d: NodeState, mine: bool) -> u8
+    ensures { result ≡ losers d mine }
+{
+    d.pending.saturating_sub(mine as u8)
+}
+
 // How many of a node's frames are removed and told, the winner left out.
 fn told_count(d: NodeState, mine: bool) -> u8
-    requires { own mine ≤ d.pending }
     ensures { result ≡ told_count d mine }
 {
     if discards(d) {
-        return d.pending - mine as u8;
+        return losers(d, mine);
     }
     0
 }
 
 // How many stay pending.
 fn stay_count(d: NodeState, mine: bool) -> u8
-    requires { own mine ≤ d.pending }
     ensures { result ≡ stay_count d mine }
 {
     if discards(d) {
         return 0;
     }
-    d.pending - mine as u8
-}
-
-// How many bytes a node is told of the winner.
-fn news_length(e: Option<Injection>, mine: bool, off: bool, size: usize) -> usize
-    ensures { result ≡ news_length e mine off size }
-{
-    match e {
-        None => {
-            if mine {
-                return operation::CONFIRM_LENGTH;
-            }
-            if off {
-                return 0;
-            }
-            size
-        }
-        Some(_) => {
-            if off {
-                return 0;
-            }
-            operation::BUS_ERROR_LENGTH
-        }
-    }
-}
-
-// How many bytes a node is owed in all.
-fn owed_length(d: NodeState, mine: bool, e: Option<Injection>, size: usize) -> usize
-    requires { (own mine ≤ d.pending) × (size ≤ 2070) }
-    ensures { result ≡ owed_length e d mine size }
-{
-    let off = bus_state::is_off(d);
-    news_length(e, mine, off, size)
-        + operation::ARBITRATION_LOST_LENGTH * told_count(d, mine) as usize
-}
-
-// Whether every queue has room for what its node is owed; size is the length of the winner's Transmit.
-fn has_room(s: State, e: Option<Injection>, owner: usize, size: usize) -> bool
-    requires { (s.count ≤ 8) × (1 ≤ (node_state s owner).pending) × (size ≤ 2070) }
-    ensures { result ≡ room_from e s.nodes owner size 0 s.count }
-{
-    let attached = s.count as usize;
-    let nodes = s.nodes;
-    for j in 0..attached {
-        let d = nodes[j];
-        if bus_state::BYTES_PER_QUEUE < d.fill as usize + owed_length(d, j == owner, e, size) {
-            return false;
-        }
-    }
-    true
+    losers(d, mine)
 }
 
 // ---- the bytes
@@ -209,85 +167,7 @@ fn put_operation(op: Operation, bytes: &[u8], buffer: &mut [u8], at: usize)
     requires op_in_bounds { at + length_of op ≤ length buffer.old }
     ensures { buffer.new ≡ over buffer.old at (encode op bytes.now) }
 {
-    encoder::write(op, bytes, &mut buffer[at..]);
-}
-
-// Lays a Confirm over a buffer from a position on.
-fn put_confirm(id: u32, buffer: &mut [u8], at: usize)
-    requires { (legal (Operation.Confirm id) ≡ true) × (at + length_of (Operation.Confirm id) ≤ length buffer.old) }
-    ensures { buffer.new ≡ over buffer.old at (encode (Operation.Confirm id) []) }
-{
-    encoder::write_confirm(id, b"", &mut buffer[at..]);
-}
-
-// Lays a Bus Error over a buffer from a position on.
-fn put_bus_error(id: u32, code: u8, flag: u8, sender: u8, buffer: &mut [u8], at: usize)
-    requires { (legal (Operation.BusError id code flag sender) ≡ true) × (at + length_of (Operation.BusError id code flag sender) ≤ length buffer.old) }
-    ensures { buffer.new ≡ over buffer.old at (encode (Operation.BusError id code flag sender) []) }
-{
-    encoder::write_bus_error(id, code, flag, sender, b"", &mut buffer[at..]);
-}
-
-// Lays an Arbitration Lost over a buffer from a position on.
-fn put_lost(id: u32, buffer: &mut [u8], at: usize)
-    requires { (legal (Operation.ArbitrationLost id) ≡ true) × (at + length_of (Operation.ArbitrationLost id) ≤ length buffer.old) }
-    ensures { buffer.new ≡ over buffer.old at (encode (Operation.ArbitrationLost id) []) }
-{
-    encoder::write_arbitration_lost(id, b"", &mut buffer[at..]);
-}
-
-// The Error Flag at a node: the primary one where the error is detected.
-fn flag_at(j: usize, detector: u32) -> u8
-    ensures { result ≡ flag_at j detector }
-{
-    if j == detector as usize {
-        return operation::PRIMARY_ERROR_FLAG;
-    }
-    operation::SECONDARY_ERROR_FLAG
-}
-
-// What a node is told of the winner, by its number, the winner's node, and whether it is Bus-Off.
-fn put_news(
-    e: Option<Injection>,
-    j: usize,
-    owner: usize,
-    off: bool,
-    winner: Slot,
-    bytes: &[u8],
-    queues: &mut [u8],
-    at: usize,
-)
-    requires writable { Writable (held_in (content_of winner)) }
-    requires e_value { (has_legal_code e ≡ true) × (length bytes.now ≡ data_length (held_in (content_of winner))) }
-    requires bytes_in_bounds { at + length (news_to e j owner off (held_in (content_of winner)) bytes.now) ≤ length queues.old }
-    ensures { queues.new ≡ over queues.old at (news_to e j owner off (held_in (content_of winner)) bytes.now) }
-{
-    match e {
-        None => {
-            if j == owner {
-                put_confirm(slots::id_of(winner), queues, at);
-                return;
-            }
-            if off {
-                return;
-            }
-            put_operation(slots::held_in(winner), bytes, queues, at);
-        }
-        Some(Injection { code, detector }) => {
-            if off {
-                return;
-            }
-            let id = slots::id_of(winner);
-            put_bus_error(
-                id,
-                code as u8,
-                flag_at(j, detector),
-                (j == owner) as u8,
-                queues,
-                at,
-            );
-        }
-    }
+    let _ = encoder::write(op, bytes, &mut buffer[at..]);
 }
 
 // Arbitration Lost for a frame by its ID, unless it is the winner; answers the place after it.
@@ -299,80 +179,164 @@ fn put_notice(id: u32, wins: bool, queues: &mut [u8], at: usize) -> usize
     if wins {
         return at;
     }
-    put_lost(id, queues, at);
+    put_operation(Operation::ArbitrationLost { id }, b"", queues, at);
     at + operation::ARBITRATION_LOST_LENGTH
 }
 
-// Writes what a node is told of the winner behind the fill of its queue, and answers the place after it; size is the length of the
-// winner's Transmit.
-fn tell(
-    d: NodeState,
-    j: usize,
-    e: Option<Injection>,
-    owner: usize,
-    size: usize,
-    winner: Slot,
-    bytes: &[u8],
-    queues: &mut [u8],
-) -> usize
-    requires j_bound { j < 8 }
-    requires writable { Writable (held_in (content_of winner)) }
-    requires e_value { (has_legal_code e ≡ true) × (length bytes.now ≡ data_length (held_in (content_of winner))) × (size ≡ length_of (held_in (content_of winner))) }
-    requires bytes_in_bounds { bytes_per_queue * j + d.fill + length (news_to e j owner (is_off d) (held_in (content_of winner)) bytes.now) ≤ length queues.old }
-    ensures value { result ≡ bytes_per_queue * j + d.fill + length (news_to e j owner (is_off d) (held_in (content_of winner)) bytes.now) }
-    ensures queues_after { queues.new ≡ over queues.old (bytes_per_queue * j + d.fill) (news_to e j owner (is_off d) (held_in (content_of winner)) bytes.now) }
-{
-    let off = bus_state::is_off(d);
-    let at = bus_state::BYTES_PER_QUEUE * j + d.fill as usize;
-    put_news(e, j, owner, off, winner, bytes, queues, at);
-    at + news_length(e, j == owner, off, size)
-}
+// ---- what a round tells
 
-// A node's entry after the round.
-fn entry_after(d: NodeState, mine: bool, e: Option<Injection>, size: usize) -> NodeState
-    requires { (own mine ≤ d.pending) × (size ≤ 2070) × (d.fill + owed_length e d mine size ≤ bytes_per_queue) }
-    ensures { result ≡ entry_after e d mine size }
+// The Error Flag at a node: the primary one where the error is detected.
+fn flag_at(j: usize, detector: u32) -> u8
+    ensures { result ≡ flag_at j detector }
 {
-    let fill = d.fill + owed_length(d, mine, e, size) as u16;
-    let pending = stay_count(d, mine);
-    bus_state::with_pending(bus_state::with_fill(d, fill), pending)
-}
-
-// Writes what every node is owed, and gives the state after the round.
-fn tell_all(
-    s: State,
-    e: Option<Injection>,
-    owner: usize,
-    position: usize,
-    size: usize,
-    winner: Slot,
-    ids: [u32; 32],
-    bytes: &[u8],
-    queues: &mut [u8],
-) -> State
-    requires round_lt_last_round { (s.round < last_round) × (has_legal_code e ≡ true) × Tellable s ids }
-    requires pending_at { PendingAt s owner position }
-    requires writable { Writable (held_in (content_of winner)) × (length bytes.now ≡ data_length (held_in (content_of winner))) × (size ≡ length_of (held_in (content_of winner))) }
-    requires count_value { (room_from e s.nodes owner size 0 s.count ≡ true) × (length queues.old ≡ queue_bytes) }
-    ensures value { result ≡ state_after e s owner size }
-    ensures queues_after { queues.new ≡ queues_after e s.nodes owner position (held_in (content_of winner)) ids bytes.now 0 s.count queues.old }
-{
-    let count = s.count as usize;
-    let slot = bus_state::SLOTS_PER_NODE * owner + position;
-    let mut after = s.nodes;
-    for j in 0..count {
-        let d = after[j];
-        let mut to = tell(d, j, e, owner, size, winner, bytes, queues);
-        let first = bus_state::SLOTS_PER_NODE * j;
-        for p in first..first + discarded(d) as usize {
-            to = put_notice(ids[p], p == slot, queues, to);
-        }
-        after[j] = entry_after(d, j == owner, e, size);
+    if j == detector as usize {
+        return operation::ErrorFlag::Primary as u8;
     }
-    State {
-        count: s.count,
-        round: s.round + 1,
-        nodes: after,
+    operation::ErrorFlag::Secondary as u8
+}
+
+// What a round is about: the Transmit that won, with its ID, its length and its data, its sender, and the error injected into it.
+#[derive(Clone, Copy)]
+struct News<'a> {
+    op: Operation,
+    id: u32,
+    size: usize,
+    bytes: &'a [u8],
+    owner: usize,
+    error: Option<Injection>,
+    ghost lawful: { legal op ≡ true },
+    ghost named: { id ≡ id_of op },
+    ghost low: { id ≤ max_extended_id },
+    ghost short: { data_length op ≤ bytes_per_slot },
+    ghost sized: { size ≡ length_of op },
+    ghost whole: { length bytes.now ≡ data_length op },
+    ghost in_table: { has_legal_code error ≡ true },
+}
+
+impl<'a> News<'a> {
+    // How many bytes a node is told of the winner.
+    fn length(&self, mine: bool, off: bool) -> usize
+        ensures { result ≡ news_length self.now.error mine off self.now.size }
+    {
+        match self.error {
+            None => {
+                if mine {
+                    return operation::CONFIRM_LENGTH;
+                }
+                if off {
+                    return 0;
+                }
+                self.size
+            }
+            Some(_) => {
+                if off {
+                    return 0;
+                }
+                operation::BUS_ERROR_LENGTH
+            }
+        }
+    }
+
+    // How many bytes a node is owed in all.
+    fn owed_length(&self, d: NodeState, mine: bool) -> usize
+        ensures { result ≡ owed_length self.now.error d mine self.now.size }
+    {
+        let off = bus_state::is_off(d);
+        self.length(mine, off) + operation::ARBITRATION_LOST_LENGTH * told_count(d, mine) as usize
+    }
+
+    // Whether every queue has room for what its node is owed.
+    fn has_room(&self, s: State) -> bool
+        requires { s.count ≤ 8 }
+        ensures { result ≡ room_from self.now.error s.nodes self.now.owner self.now.size 0 s.count }
+    {
+        let attached = s.count as usize;
+        let nodes = s.nodes;
+        for j in 0..attached {
+            let d = nodes[j];
+            if bus_state::BYTES_PER_QUEUE < d.fill as usize + self.owed_length(d, j == self.owner) {
+                return false;
+            }
+        }
+        true
+    }
+
+    // Lays what node j is told of the winner over a buffer from a position on.
+    fn put(&self, j: usize, off: bool, queues: &mut [u8], at: usize)
+        requires { at + length (news_to self.now.error j self.now.owner off self.now.op self.now.bytes.now) ≤ length queues.old }
+        ensures { queues.new ≡ over queues.old at (news_to self.now.error j self.now.owner off self.now.op self.now.bytes.now) }
+    {
+        let mine = j == self.owner;
+        let error = self.error;
+        if let Some(Injection { code, detector }) = error {
+            if off {
+                return;
+            }
+            let op = Operation::BusError {
+                id: self.id,
+                error_code: code as u8,
+                error_flag: flag_at(j, detector),
+                is_sender: mine as u8,
+            };
+            put_operation(op, b"", queues, at);
+            return;
+        }
+        if mine {
+            put_operation(Operation::Confirm { id: self.id }, b"", queues, at);
+            return;
+        }
+        if off {
+            return;
+        }
+        put_operation(self.op, self.bytes, queues, at);
+    }
+
+    // Writes what node j is told of the winner behind the fill of its queue, and answers the place after it.
+    fn tell(&self, d: NodeState, j: usize, queues: &mut [u8]) -> usize
+        requires { (j < 8) × (bytes_per_queue * j + d.fill + length (news_to self.now.error j self.now.owner (is_off d) self.now.op self.now.bytes.now) ≤ length queues.old) }
+        ensures value { result ≡ bytes_per_queue * j + d.fill + length (news_to self.now.error j self.now.owner (is_off d) self.now.op self.now.bytes.now) }
+        ensures queues_after { queues.new ≡ over queues.old (bytes_per_queue * j + d.fill) (news_to self.now.error j self.now.owner (is_off d) self.now.op self.now.bytes.now) }
+    {
+        let off = bus_state::is_off(d);
+        let at = bus_state::BYTES_PER_QUEUE * j + d.fill as usize;
+        self.put(j, off, queues, at);
+        at + self.length(j == self.owner, off)
+    }
+
+    // A node's entry after the round.
+    fn entry_after(&self, d: NodeState, mine: bool) -> NodeState
+        requires { d.fill + owed_length self.now.error d mine self.now.size ≤ bytes_per_queue }
+        ensures { result ≡ entry_after self.now.error d mine self.now.size }
+    {
+        let fill = d.fill + self.owed_length(d, mine) as u16;
+        let pending = stay_count(d, mine);
+        bus_state::with_pending(bus_state::with_fill(d, fill), pending)
+    }
+
+    // Writes what every node is owed, and gives the state after the round; the winner stands at a position, and every slot's ID in ids.
+    fn tell_all(&self, s: State, position: usize, ids: &[u32; 32], queues: &mut [u8]) -> State
+        requires tellable { (s.round < last_round) × Tellable s ids.now × PendingAt s self.now.owner position }
+        requires room { (room_from self.now.error s.nodes self.now.owner self.now.size 0 s.count ≡ true) × (length queues.old ≡ queue_bytes) }
+        ensures value { result ≡ state_after self.now.error s self.now.owner self.now.size }
+        ensures queues_after { queues.new ≡ queues_after self.now.error s.nodes self.now.owner position self.now.op ids.now self.now.bytes.now 0 s.count queues.old }
+    {
+        let count = s.count as usize;
+        let slot = bus_state::SLOTS_PER_NODE * self.owner + position;
+        let mut after = s.nodes;
+        for j in 0..count {
+            let d = after[j];
+            let mut to = self.tell(d, j, queues);
+            let first = bus_state::SLOTS_PER_NODE * j;
+            for p in first..first + discarded(d) as usize {
+                to = put_notice(ids[p], p == slot, queues, to);
+            }
+            after[j] = self.entry_after(d, j == self.owner);
+        }
+        State {
+            count: s.count,
+            round: s.round + 1,
+            nodes: after,
+        }
     }
 }
 
@@ -381,63 +345,8 @@ fn tell_all(
 // The round number at its largest.
 const LAST_ROUND: u32 = 4294967295;
 
-// Carries out a round that a frame won and that every queue has room for: the queues first, and then the frame is removed.
-fn carry_out(
-    s: State,
-    four: [Slot; 4],
-    ids: [u32; 32],
-    payload: &mut [u8],
-    queues: &mut [u8],
-    e: Option<Injection>,
-    won: Winner,
-    size: usize,
-) -> Change
-    requires drawn { (a : List Slot) × Drawn s a (Some won) four ids }
-    requires round_lt_last_round { (s.round < last_round) × (has_legal_code e ≡ true) }
-    requires size_value { (size ≡ length_of (held_at four won.position)) × (room_from e s.nodes won.owner size 0 s.count ≡ true) }
-    requires payload_len { (length payload.old ≡ payload_bytes) × (length queues.old ≡ queue_bytes) }
-    ensures queues_after { (a : List Slot) → Drawn s a (Some won) four ids → ended_by result a payload.new queues.new ≡ ended (carried_out (held s a payload.old queues.old) (injection_of e) (pending_at (held s a payload.old queues.old) won.owner won.position)) }
-    ensures at_value { result.at ≡ slots_per_node * won.owner }
-{
-    let Winner {
-        owner,
-        position,
-        ..
-    } = won;
-    let d = bus_state::entry(s, owner);
-    let at = bus_state::SLOTS_PER_NODE * owner;
-    let winner = four[position];
-    let from = bus_state::BYTES_PER_SLOT * (at + position);
-    let to = from + operation::data_length(slots::held_in(winner)) as usize;
-    let state = tell_all(
-        s,
-        e,
-        owner,
-        position,
-        size,
-        winner,
-        ids,
-        &payload[from..to],
-        queues,
-    );
-    let last = d.pending as usize - 1;
-    move_data(payload, four, at, position, last);
-    let block = block_without(four, position, last);
-    let outcome = Done::Carried {
-        sender: owner as u8,
-        id: slots::id_of(winner),
-        errored: e.is_some(),
-        age: s.round - winner.accepted,
-    };
-    Change {
-        outcome: Ok(outcome),
-        state,
-        at,
-        block,
-    }
-}
-
-// A round that a frame won: refused where a queue is too full, or the round number at its largest.
+// A round that a frame won: refused where a queue is too full, or the round number at its largest. Else the queues are written, and then
+// the frame is removed.
 fn arbitrate(
     s: State,
     four: [Slot; 4],
@@ -458,13 +367,24 @@ fn arbitrate(
         position,
         ..
     } = won;
-    let op = slots::held_in(four[position]);
-    let size = operation::head_length(op) + operation::data_length(op) as usize;
-    if !has_room(s, e, owner, size) {
+    let at = bus_state::SLOTS_PER_NODE * owner;
+    let winner = four[position];
+    let op = slots::held_in(winner);
+    let n = operation::data_length(op) as usize;
+    let from = bus_state::BYTES_PER_SLOT * (at + position);
+    let news = News {
+        op,
+        id: slots::id_of(winner),
+        size: operation::head_length(op) + n,
+        bytes: &payload[from..from + n],
+        owner,
+        error: e,
+    };
+    if !news.has_room(s) {
         return Change {
             outcome: Err(Refusal::QueueFull),
             state: s,
-            at: bus_state::SLOTS_PER_NODE * owner,
+            at,
             block: four,
         };
     }
@@ -472,11 +392,27 @@ fn arbitrate(
         return Change {
             outcome: Err(Refusal::RoundsUsedUp),
             state: s,
-            at: bus_state::SLOTS_PER_NODE * owner,
+            at,
             block: four,
         };
     }
-    carry_out(s, four, ids, payload, queues, e, won, size)
+    let state = news.tell_all(s, position, &ids, queues);
+    let outcome = Done::Carried {
+        sender: owner as u8,
+        id: news.id,
+        errored: e.is_some(),
+        age: s.round - winner.accepted,
+    };
+    let d = bus_state::entry(s, owner);
+    let last = d.pending as usize - 1;
+    move_data(payload, four, at, position, last);
+    let block = block_without(four, position, last);
+    Change {
+        outcome: Ok(outcome),
+        state,
+        at,
+        block,
+    }
 }
 
 // One round, for the winner among some slots, its node's four of them, and every slot's ID. The lent memory changes only where it is

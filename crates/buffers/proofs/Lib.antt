@@ -1,3 +1,3 @@
 pub mod Laying
+pub mod Numbers
 pub mod Offsets
-pub mod Copies

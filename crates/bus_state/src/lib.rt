@@ -7,6 +7,7 @@ ghost use Rattle.bus_state.specs.Entries.{with_entry, entry_status, entry_behavi
 ghost use Rattle.bus_state.specs.Valid.{non_zero, valid_entry};
 ghost use Rattle.bus_state.specs.Follows.{slot_follows};
 
+use operation::NodeStatus;
 use slots::Slot;
 
 // What is held of one node besides its frames and its queue's bytes: its pending frames are slots 4j to 4j + pending - 1 of node j,
@@ -53,7 +54,7 @@ pub const QUEUE_BYTES: usize = 32768;
 pub fn is_off(d: NodeState) -> bool
     ensures { result ≡ is_off d }
 {
-    d.status == operation::BUS_OFF
+    d.status == NodeStatus::BusOff as u8
 }
 
 fn are_non_zero(rates: [u32; 3]) -> bool

@@ -15,9 +15,12 @@ use Rattle.operation.specs.declared.Operation.{Operation}
 use Rattle.operation.specs.declared.Operation.TheVariants.{FormatError, XlTransmit, Wakeup}
 use Rattle.operation.proofs.Tests.{both, passed}
 use Rattle.operation.proofs.Sizes.{head_small, header-length, encode-length}
-use Rattle.encoder.specs.Writing.{decision, write_outcome, buffer_written, written_of}
-use Rattle.encoder.specs.declared.Written.{Written}
-use Rattle.encoder.specs.declared.Written.TheVariants.{Done, RuleBroken, BufferTooSmall}
+use Rattle.std.specs.Prelude.{Ok, Err}
+use Rattle.std.specs.Result.{IsErrAnd}
+use Rattle.std.proofs.lemmas.Result.{err_from_is_err_and}
+use Rattle.encoder.specs.Writing.{Written, decision, write_outcome, buffer_written, written_of}
+use Rattle.encoder.specs.declared.WriteError.{WriteError}
+use Rattle.encoder.specs.declared.WriteError.TheVariants.{RuleBroken, BufferTooSmall}
 use Rattle.buffers.specs.Parts.{over}
 use Rattle.buffers.proofs.Laying.{behind}
 
@@ -34,13 +37,13 @@ pub record Accepted (op : Operation) (given room n : ℕ) : Type 0 where
   pub whole : given ≡ data_length op
   pub short : given ≤ 65535
 
-accepted_by : (op : Operation) (given room n : ℕ) → write_outcome op given room ≡ Done n → Accepted op given room n
+accepted_by : (op : Operation) (given room n : ℕ) → write_outcome op given room ≡ Ok n → Accepted op given room n
 unfolding write_outcome decision
 accepted_by op given room n e =
     go (legal op && eqb given (data_length op) && leb given 65535) refl (leb (length_of op) room) refl e
   where
     go : (w : Bool) → (legal op && eqb given (data_length op) && leb given 65535) ≡ w → (r : Bool) → leb (length_of op) room ≡ r
-        → cond w (cond r (Done (length_of op)) BufferTooSmall) RuleBroken ≡ Done n → Accepted op given room n
+        → cond w (cond r (Ok (length_of op)) (Err BufferTooSmall)) (Err RuleBroken) ≡ Ok n → Accepted op given room n
     go true qw true qr e =
         let s : length_of op ≡ n = cc in
         let p = both (legal op && eqb given (data_length op)) (leb given 65535) qw in
@@ -55,7 +58,7 @@ accepted_by op given room n e =
     go true qw false qr e = let z : ◌≡◌ {A = ℕ} 0 1 = cc in absurd (omega arith)
     go false qw r qr e = let z : ◌≡◌ {A = ℕ} 0 1 = cc in absurd (omega arith)
 
-pub accepted : {op : Operation} {given room n : ℕ} → write_outcome op given room ≡ Done n → Accepted op given room n
+pub accepted : {op : Operation} {given room n : ℕ} → write_outcome op given room ≡ Ok n → Accepted op given room n
 accepted {op} {given} {room} {n} e = accepted_by op given room n e
 
 -- the answer to an operation, from that to its kind's numbers
@@ -83,34 +86,45 @@ unfolding legal rules
 xl-short id ide sec sdt vcid af dl l = leb-true dl 2_048 (both (leb 1 dl) (leb dl 2_048) (passed _ l 3)).1
 
 -- the header at the front and the data behind it are the operation, written
-pub written : (op : Operation) (payload l : List ℕ) {l₁ l₂ : List ℕ} {n : ℕ} → write_outcome op (length payload) (length l) ≡ Done n
+pub done : (op : Operation) (payload l : List ℕ) {l₁ l₂ : List ℕ} {n : ℕ} → Ok n ≡ write_outcome op (length payload) (length l)
     → l₁ ≡ over l 0 (header op) → l₂ ≡ over l₁ (head_length op) payload → l₂ ≡ written_of op payload l
 unfolding written_of encode
-written op payload l e p q =
-    rw (e, q, p, ← header-length op) (behind l (header op) payload)
+done op payload l e p q =
+    rw (← e, q, p, ← header-length op) (behind l (header op) payload)
 
 -- the header alone is the operation, written, where it has no data
-pub written_bare : (op : Operation) (payload l : List ℕ) {l₁ : List ℕ} {n : ℕ} → write_outcome op (length payload) (length l) ≡ Done n
+pub done_bare : (op : Operation) (payload l : List ℕ) {l₁ : List ℕ} {n : ℕ} → Ok n ≡ write_outcome op (length payload) (length l)
     → data_length op ≡ 0 → l₁ ≡ over l 0 (header op) → l₁ ≡ written_of op payload l
 unfolding written_of encode
-written_bare op [] l e z p = rw (e, p, append-nil (header op))
-written_bare op (b ∷ payload) l e z p = absurd (omega (arith, (accepted e).whole))
+done_bare op [] l e z p = rw (← e, p, append-nil (header op))
+done_bare op (b ∷ payload) l e z p = absurd (omega (arith, (accepted (sym e)).whole))
 
--- a refused write leaves the buffer as it was
-pub kept : (op : Operation) (payload l : List ℕ) {w : Written} → write_outcome op (length payload) (length l) ≡ w
-    → l ≡ buffer_written w (encode op payload) l → l ≡ written_of op payload l
+pub written_bare : (op : Operation) (payload l : List ℕ) {l₁ : List ℕ} {w : Written} → w ≡ write_outcome op (length payload) (length l)
+    → data_length op ≡ 0 → l₁ ≡ buffer_written w (header op) l → l₁ ≡ written_of op payload l
 unfolding written_of
-kept op payload l e h = rw e h
+written_bare op payload l {w = Ok n} e z p = done_bare op payload l e z p
+written_bare op payload l {w = Err refusal} e z p = rw (← e) p
+
+-- a writer's exit by `?`: a refused write leaves the buffer as it was
+pub refused : (op : Operation) (payload l : List ℕ) {r w : Written} {refusal : WriteError} → w ≡ write_outcome op (length payload) (length l)
+    → w ≡ Err refusal → IsErrAnd r (λ (e : WriteError). e ≡ refusal)
+    → (r ≡ write_outcome op (length payload) (length l)) × (l ≡ written_of op payload l)
+unfolding written_of
+refused op payload l {r} {w} {refusal} e k h =
+    let p = err_from_is_err_and r h in
+    let q : r ≡ Err refusal = p.1 ∙ ap Err p.2 in
+    let s : write_outcome op (length payload) (length l) ≡ Err refusal = sym e ∙ k in
+    (q ∙ sym s, rw s)
 
 -- what is accepted
 pub accepts : (op : Operation) (given room : ℕ) → legal op ≡ true → given ≡ data_length op → given ≤ 65535 → length_of op ≤ room
-    → write_outcome op given room ≡ Done (length_of op)
+    → write_outcome op given room ≡ Ok (length_of op)
 unfolding write_outcome decision
 accepts op given room l w s r =
     rw (l, eq-eqb given (data_length op) w, le-leb given 65535 s, le-leb (length_of op) room r)
 
 -- the bytes that an accepted write leaves at the front are the operation's
-pub written-bytes : (op : Operation) (payload l : List ℕ) {n : ℕ} → write_outcome op (length payload) (length l) ≡ Done n
+pub written-bytes : (op : Operation) (payload l : List ℕ) {n : ℕ} → write_outcome op (length payload) (length l) ≡ Ok n
     → take n (written_of op payload l) ≡ encode op payload
 unfolding written_of over
 written-bytes op payload l {n} e =

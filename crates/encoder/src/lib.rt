@@ -1,210 +1,97 @@
 // Writing one operation to the front of a buffer. The answer is decided before the first byte is stored.
 #![tactic(auto)]
 
-ghost use Rattle.std.specs.Prelude.{◌≡◌, [], ◌∷◌, ◌++◌, ◌+◌, ◌≤◌, true, false, eqb, length};
+ghost use Rattle.std.specs.Prelude.{◌≡◌, ◌++◌, ◌+◌, ◌≤◌, length, IfOk};
 ghost use Rattle.operation.specs.Number.{little_endian};
-ghost use Rattle.operation.specs.Format.{head_length, length_of, header, encode};
 ghost use Rattle.operation.specs.Rules.{legal};
-ghost use Rattle.encoder.specs.Writing.{written_number, decision, write_outcome, written_of};
+ghost use Rattle.encoder.specs.Writing.{written_number, decision, write_outcome, buffer_written, written_of};
 ghost use Rattle.buffers.specs.Parts.{over};
 
-use buffers::{put, put_long, put1, put2, put4};
+use buffers::{put, put_number};
 use operation::Operation;
 
-// The answer of a write: the length written, or the refusal.
-#[derive(Clone, Copy)]
-pub enum Written {
-    Done(usize),
-    RuleBroken,
-    BufferTooSmall,
+// Why an operation is not written: the number of each refusal.
+#[derive(Clone, Copy, Debug, PartialEq, Eq)]
+pub enum WriteError {
+    RuleBroken = 7,
+    BufferTooSmall = 11,
 }
 
-// The number of the answer: 0, 7 or 11.
-pub fn number_of(w: Written) -> u8
+// The number of the answer: 0 where the operation was written.
+pub fn number_of(w: Result<usize, WriteError>) -> u8
     ensures { result ≡ written_number w }
 {
     match w {
-        Written::Done(_) => 0,
-        Written::RuleBroken => 7,
-        Written::BufferTooSmall => 11,
+        Ok(_) => 0,
+        Err(refusal) => refusal as u8,
     }
 }
 
 // What a write answers, by whether the operation meets its rules, the lengths of its header and of its data as it says them,
 // the data's length, and the buffer's.
-fn decide(lawful: bool, head: usize, said: u16, given: usize, room: usize) -> Written
+#[tactic(auto, unfolding(crate::specs::Writing::decision))]
+fn decide(
+    lawful: bool,
+    head: usize,
+    said: u16,
+    given: usize,
+    room: usize,
+) -> Result<usize, WriteError>
     requires { head ≤ 22 }
-    ensures { result ≡ decision lawful head said given room }
+    ensures value { result ≡ decision lawful head said given room }
+    ensures accepted { IfOk result (λ n. (n ≡ head + said) × (n ≤ room) × (given ≡ said)) }
 {
-    let size = head + said as usize;
-    if lawful & (given == said as usize) {
-        if size <= room {
-            return Written::Done(size);
-        }
-        return Written::BufferTooSmall;
+    let size = head + usize::from(said);
+    if !lawful | (given != usize::from(said)) {
+        return Err(WriteError::RuleBroken);
     }
-    Written::RuleBroken
+    if room < size {
+        return Err(WriteError::BufferTooSmall);
+    }
+    Ok(size)
 }
 
-// The header of each kind, that is all but the data: the first eight bytes, then the fields.
-
+// The first eight bytes.
 fn put_start(buffer: &mut [u8], code: u32, size: u32)
     requires { 8 ≤ length buffer.old }
     ensures { buffer.new ≡ over buffer.old 0 (little_endian 4 code ++ little_endian 4 size) }
 {
-    put4(buffer, 0, code);
-    put4(buffer, 4, size);
-}
-
-fn put_can(buffer: &mut [u8], size: u32, id: u32, ide: u8, rtr: u8, dl: u16)
-    requires in_bounds { 16 ≤ length buffer.old }
-    requires size_value { size ≡ 16 + dl }
-    ensures { buffer.new ≡ over buffer.old 0 (header (Operation.CanTransmit id ide rtr dl)) }
-{
-    put_start(buffer, 0x10, size);
-    put4(buffer, 8, id);
-    put1(buffer, 12, ide);
-    put1(buffer, 13, rtr);
-    put2(buffer, 14, dl);
-}
-
-fn put_fd(buffer: &mut [u8], size: u32, id: u32, ide: u8, brs: u8, esi: u8, dl: u16)
-    requires in_bounds { 17 ≤ length buffer.old }
-    requires size_value { size ≡ 17 + dl }
-    ensures { buffer.new ≡ over buffer.old 0 (header (Operation.FdTransmit id ide brs esi dl)) }
-{
-    put_start(buffer, 0x11, size);
-    put4(buffer, 8, id);
-    put1(buffer, 12, ide);
-    put1(buffer, 13, brs);
-    put1(buffer, 14, esi);
-    put2(buffer, 15, dl);
-}
-
-fn put_xl(
-    buffer: &mut [u8],
-    size: u32,
-    id: u32,
-    ide: u8,
-    sec: u8,
-    sdt: u8,
-    vcid: u8,
-    af: u32,
-    dl: u16,
-)
-    requires in_bounds { 22 ≤ length buffer.old }
-    requires size_value { size ≡ 22 + dl }
-    ensures { buffer.new ≡ over buffer.old 0 (header (Operation.XlTransmit id ide sec sdt vcid af dl)) }
-{
-    put_start(buffer, 0x12, size);
-    put4(buffer, 8, id);
-    put1(buffer, 12, ide);
-    put1(buffer, 13, sec);
-    put1(buffer, 14, sdt);
-    put1(buffer, 15, vcid);
-    put4(buffer, 16, af);
-    put2(buffer, 20, dl);
-}
-
-fn put_format_error(buffer: &mut [u8], size: u32, n: u16)
-    requires in_bounds { 10 ≤ length buffer.old }
-    requires size_value { size ≡ 10 + n }
-    ensures { buffer.new ≡ over buffer.old 0 (header (Operation.FormatError n)) }
-{
-    put_start(buffer, 0x01, size);
-    put2(buffer, 8, n);
-}
-
-fn put_confirm(buffer: &mut [u8], id: u32)
-    requires { 12 ≤ length buffer.old }
-    ensures { buffer.new ≡ over buffer.old 0 (header (Operation.Confirm id)) }
-{
-    put_start(buffer, 0x20, 12);
-    put4(buffer, 8, id);
-}
-
-fn put_arbitration_lost(buffer: &mut [u8], id: u32)
-    requires { 12 ≤ length buffer.old }
-    ensures { buffer.new ≡ over buffer.old 0 (header (Operation.ArbitrationLost id)) }
-{
-    put_start(buffer, 0x30, 12);
-    put4(buffer, 8, id);
-}
-
-fn put_bus_error(buffer: &mut [u8], id: u32, code: u8, flag: u8, sender: u8)
-    requires { 15 ≤ length buffer.old }
-    ensures { buffer.new ≡ over buffer.old 0 (header (Operation.BusError id code flag sender)) }
-{
-    put_start(buffer, 0x31, 15);
-    put4(buffer, 8, id);
-    put1(buffer, 12, code);
-    put1(buffer, 13, flag);
-    put1(buffer, 14, sender);
-}
-
-// A Configuration that carries a behaviour.
-fn put_behaviour(buffer: &mut [u8], value: u32)
-    requires { 10 ≤ length buffer.old }
-    ensures { buffer.new ≡ over buffer.old 0 (header (Operation.Configuration 4 value)) }
-{
-    put_start(buffer, 0x40, 10);
-    put1(buffer, 8, operation::ARBITRATION_LOST_BEHAVIOR);
-    put1(buffer, 9, (value % 256) as u8);
-}
-
-// A Configuration that carries a baud rate.
-fn put_baud_rate(buffer: &mut [u8], kind: u8, value: u32)
-    requires in_bounds { 13 ≤ length buffer.old }
-    requires kind_value { eqb kind 4 ≡ false }
-    ensures { buffer.new ≡ over buffer.old 0 (header (Operation.Configuration kind value)) }
-{
-    put_start(buffer, 0x40, 13);
-    put1(buffer, 8, kind);
-    put4(buffer, 9, value);
-}
-
-fn put_status(buffer: &mut [u8], status: u8)
-    requires { 9 ≤ length buffer.old }
-    ensures { buffer.new ≡ over buffer.old 0 (header (Operation.Status status)) }
-{
-    put_start(buffer, 0x41, 9);
-    put1(buffer, 8, status);
+    put_number::<4>(buffer, 0, code);
+    put_number::<4>(buffer, 4, size);
 }
 
 // Writing one kind: the answer, then the header and the data behind it. A caller that has the kind needs no `Operation`.
 
-pub fn write_format_error(n: u16, payload: &[u8], buffer: &mut [u8]) -> Written
+pub fn write_format_error(n: u16, payload: &[u8], buffer: &mut [u8]) -> Result<usize, WriteError>
     ensures answer { result ≡ write_outcome (Operation.FormatError n) (length payload.now) (length buffer.old) }
     ensures written { buffer.new ≡ written_of (Operation.FormatError n) payload.now buffer.old }
 {
-    let lawful = true;
-    let answer = decide(lawful, 10, n, payload.len(), buffer.len());
-    match answer {
-        Written::Done(size) => {
-            put_format_error(buffer, size as u32, n);
-            put(buffer, 10, payload);
-            answer
-        }
-        Written::RuleBroken => answer,
-        Written::BufferTooSmall => answer,
-    }
+    let size = decide(true, 10, n, payload.len(), buffer.len())?;
+    put_start(buffer, 0x01, size as u32);
+    put_number::<2>(buffer, 8, u32::from(n));
+    put(buffer, 10, payload);
+    Ok(size)
 }
 
-pub fn write_can(id: u32, ide: u8, rtr: u8, dl: u16, payload: &[u8], buffer: &mut [u8]) -> Written
+pub fn write_can(
+    id: u32,
+    ide: u8,
+    rtr: u8,
+    dl: u16,
+    payload: &[u8],
+    buffer: &mut [u8],
+) -> Result<usize, WriteError>
     ensures answer { result ≡ write_outcome (Operation.CanTransmit id ide rtr dl) (length payload.now) (length buffer.old) }
     ensures written { buffer.new ≡ written_of (Operation.CanTransmit id ide rtr dl) payload.now buffer.old }
 {
     let lawful = operation::can_is_legal(id, ide, rtr, dl);
-    let answer = decide(lawful, 16, dl, payload.len(), buffer.len());
-    match answer {
-        Written::Done(size) => {
-            put_can(buffer, size as u32, id, ide, rtr, dl);
-            put(buffer, 16, payload);
-            answer
-        }
-        Written::RuleBroken => answer,
-        Written::BufferTooSmall => answer,
-    }
+    let size = decide(lawful, 16, dl, payload.len(), buffer.len())?;
+    put_start(buffer, 0x10, size as u32);
+    put_number::<4>(buffer, 8, id);
+    put(buffer, 12, &[ide, rtr]);
+    put_number::<2>(buffer, 14, u32::from(dl));
+    put(buffer, 16, payload);
+    Ok(size)
 }
 
 pub fn write_fd(
@@ -215,21 +102,18 @@ pub fn write_fd(
     dl: u16,
     payload: &[u8],
     buffer: &mut [u8],
-) -> Written
+) -> Result<usize, WriteError>
     ensures answer { result ≡ write_outcome (Operation.FdTransmit id ide brs esi dl) (length payload.now) (length buffer.old) }
     ensures written { buffer.new ≡ written_of (Operation.FdTransmit id ide brs esi dl) payload.now buffer.old }
 {
     let lawful = operation::fd_is_legal(id, ide, brs, esi, dl);
-    let answer = decide(lawful, 17, dl, payload.len(), buffer.len());
-    match answer {
-        Written::Done(size) => {
-            put_fd(buffer, size as u32, id, ide, brs, esi, dl);
-            put(buffer, 17, payload);
-            answer
-        }
-        Written::RuleBroken => answer,
-        Written::BufferTooSmall => answer,
-    }
+    let size = decide(lawful, 17, dl, payload.len(), buffer.len())?;
+    put_start(buffer, 0x11, size as u32);
+    put_number::<4>(buffer, 8, id);
+    put(buffer, 12, &[ide, brs, esi]);
+    put_number::<2>(buffer, 15, u32::from(dl));
+    put(buffer, 17, payload);
+    Ok(size)
 }
 
 pub fn write_xl(
@@ -242,53 +126,54 @@ pub fn write_xl(
     dl: u16,
     payload: &[u8],
     buffer: &mut [u8],
-) -> Written
+) -> Result<usize, WriteError>
     ensures answer { result ≡ write_outcome (Operation.XlTransmit id ide sec sdt vcid af dl) (length payload.now) (length buffer.old) }
     ensures written { buffer.new ≡ written_of (Operation.XlTransmit id ide sec sdt vcid af dl) payload.now buffer.old }
 {
     let lawful = operation::xl_is_legal(id, ide, sec, sdt, vcid, af, dl);
-    let answer = decide(lawful, 22, dl, payload.len(), buffer.len());
-    match answer {
-        Written::Done(size) => {
-            put_xl(buffer, size as u32, id, ide, sec, sdt, vcid, af, dl);
-            put_long(buffer, 22, payload);
-            answer
-        }
-        Written::RuleBroken => answer,
-        Written::BufferTooSmall => answer,
-    }
+    let size = decide(lawful, 22, dl, payload.len(), buffer.len())?;
+    put_start(buffer, 0x12, size as u32);
+    put_number::<4>(buffer, 8, id);
+    put(buffer, 12, &[ide, sec, sdt, vcid]);
+    put_number::<4>(buffer, 16, af);
+    put_number::<2>(buffer, 20, u32::from(dl));
+    put(buffer, 22, payload);
+    Ok(size)
 }
 
-pub fn write_confirm(id: u32, payload: &[u8], buffer: &mut [u8]) -> Written
+// A Confirm or an Arbitration Lost, by its code.
+fn write_id(code: u32, id: u32, payload: &[u8], buffer: &mut [u8]) -> Result<usize, WriteError>
+    ensures answer { result ≡ decision (legal (Operation.Confirm id)) 12 0 (length payload.now) (length buffer.old) }
+    ensures written { buffer.new ≡ buffer_written result (little_endian 4 code ++ little_endian 4 12 ++ little_endian 4 id) buffer.old }
+{
+    let size = decide(
+        operation::id_is_legal(id),
+        12,
+        0,
+        payload.len(),
+        buffer.len(),
+    )?;
+    put_start(buffer, code, size as u32);
+    put_number::<4>(buffer, 8, id);
+    Ok(size)
+}
+
+pub fn write_confirm(id: u32, payload: &[u8], buffer: &mut [u8]) -> Result<usize, WriteError>
     ensures answer { result ≡ write_outcome (Operation.Confirm id) (length payload.now) (length buffer.old) }
     ensures written { buffer.new ≡ written_of (Operation.Confirm id) payload.now buffer.old }
 {
-    let lawful = operation::id_is_legal(id);
-    let answer = decide(lawful, 12, 0, payload.len(), buffer.len());
-    match answer {
-        Written::Done(size) => {
-            put_confirm(buffer, id);
-            Written::Done(size)
-        }
-        Written::RuleBroken => answer,
-        Written::BufferTooSmall => answer,
-    }
+    write_id(0x20, id, payload, buffer)
 }
 
-pub fn write_arbitration_lost(id: u32, payload: &[u8], buffer: &mut [u8]) -> Written
+pub fn write_arbitration_lost(
+    id: u32,
+    payload: &[u8],
+    buffer: &mut [u8],
+) -> Result<usize, WriteError>
     ensures answer { result ≡ write_outcome (Operation.ArbitrationLost id) (length payload.now) (length buffer.old) }
     ensures written { buffer.new ≡ written_of (Operation.ArbitrationLost id) payload.now buffer.old }
 {
-    let lawful = operation::id_is_legal(id);
-    let answer = decide(lawful, 12, 0, payload.len(), buffer.len());
-    match answer {
-        Written::Done(size) => {
-            put_arbitration_lost(buffer, id);
-            Written::Done(size)
-        }
-        Written::RuleBroken => answer,
-        Written::BufferTooSmall => answer,
-    }
+    write_id(0x30, id, payload, buffer)
 }
 
 pub fn write_bus_error(
@@ -298,76 +183,62 @@ pub fn write_bus_error(
     sender: u8,
     payload: &[u8],
     buffer: &mut [u8],
-) -> Written
+) -> Result<usize, WriteError>
     ensures answer { result ≡ write_outcome (Operation.BusError id code flag sender) (length payload.now) (length buffer.old) }
     ensures written { buffer.new ≡ written_of (Operation.BusError id code flag sender) payload.now buffer.old }
 {
     let lawful = operation::bus_error_is_legal(id, code, flag, sender);
-    let answer = decide(lawful, 15, 0, payload.len(), buffer.len());
-    match answer {
-        Written::Done(size) => {
-            put_bus_error(buffer, id, code, flag, sender);
-            Written::Done(size)
-        }
-        Written::RuleBroken => answer,
-        Written::BufferTooSmall => answer,
-    }
+    let size = decide(lawful, 15, 0, payload.len(), buffer.len())?;
+    put_start(buffer, 0x31, size as u32);
+    put_number::<4>(buffer, 8, id);
+    put(buffer, 12, &[code, flag, sender]);
+    Ok(size)
 }
 
-pub fn write_status(status: u8, payload: &[u8], buffer: &mut [u8]) -> Written
+pub fn write_status(status: u8, payload: &[u8], buffer: &mut [u8]) -> Result<usize, WriteError>
     ensures answer { result ≡ write_outcome (Operation.Status status) (length payload.now) (length buffer.old) }
     ensures written { buffer.new ≡ written_of (Operation.Status status) payload.now buffer.old }
 {
     let lawful = operation::status_is_legal(status);
-    let answer = decide(lawful, 9, 0, payload.len(), buffer.len());
-    match answer {
-        Written::Done(size) => {
-            put_status(buffer, status);
-            Written::Done(size)
-        }
-        Written::RuleBroken => answer,
-        Written::BufferTooSmall => answer,
-    }
+    let size = decide(lawful, 9, 0, payload.len(), buffer.len())?;
+    put_start(buffer, 0x41, size as u32);
+    put(buffer, 8, &[status]);
+    Ok(size)
 }
 
-pub fn write_configuration(kind: u8, value: u32, payload: &[u8], buffer: &mut [u8]) -> Written
+pub fn write_configuration(
+    kind: u8,
+    value: u32,
+    payload: &[u8],
+    buffer: &mut [u8],
+) -> Result<usize, WriteError>
     ensures answer { result ≡ write_outcome (Operation.Configuration kind value) (length payload.now) (length buffer.old) }
     ensures written { buffer.new ≡ written_of (Operation.Configuration kind value) payload.now buffer.old }
 {
     let lawful = operation::configuration_is_legal(kind, value);
     let head = operation::configuration_length(kind);
-    let answer = decide(lawful, head, 0, payload.len(), buffer.len());
-    match answer {
-        Written::Done(size) => {
-            if kind == operation::ARBITRATION_LOST_BEHAVIOR {
-                put_behaviour(buffer, value);
-                return Written::Done(size);
-            }
-            put_baud_rate(buffer, kind, value);
-            Written::Done(size)
-        }
-        Written::RuleBroken => answer,
-        Written::BufferTooSmall => answer,
+    let size = decide(lawful, head, 0, payload.len(), buffer.len())?;
+    put_start(buffer, 0x40, size as u32);
+    put(buffer, 8, &[kind]);
+    if kind == operation::ARBITRATION_LOST_BEHAVIOR {
+        put_number::<1>(buffer, 9, value);
+        return Ok(size);
     }
+    put_number::<4>(buffer, 9, value);
+    Ok(size)
 }
 
-pub fn write_wakeup(payload: &[u8], buffer: &mut [u8]) -> Written
+pub fn write_wakeup(payload: &[u8], buffer: &mut [u8]) -> Result<usize, WriteError>
     ensures answer { result ≡ write_outcome Operation.Wakeup (length payload.now) (length buffer.old) }
     ensures written { buffer.new ≡ written_of Operation.Wakeup payload.now buffer.old }
 {
-    let answer = decide(true, 8, 0, payload.len(), buffer.len());
-    match answer {
-        Written::Done(size) => {
-            put_start(buffer, 0x42, 8);
-            Written::Done(size)
-        }
-        Written::RuleBroken => answer,
-        Written::BufferTooSmall => answer,
-    }
+    let size = decide(true, 8, 0, payload.len(), buffer.len())?;
+    put_start(buffer, 0x42, size as u32);
+    Ok(size)
 }
 
 // Writes an operation with its data to the front of a buffer. A refusal changes nothing.
-pub fn write(op: Operation, payload: &[u8], buffer: &mut [u8]) -> Written
+pub fn write(op: Operation, payload: &[u8], buffer: &mut [u8]) -> Result<usize, WriteError>
     ensures answer { result ≡ write_outcome op (length payload.now) (length buffer.old) }
     ensures written { buffer.new ≡ written_of op payload.now buffer.old }
 {

@@ -5,19 +5,19 @@ pub mod layout;
 pub mod register;
 
 ghost use Rattle.std.specs.Prelude.{◌≡◌, length, ◌+◌, ◌<◌, ◌^◌};
-ghost use Rattle.decoder.specs.Front.{decode, taken};
-ghost use Rattle.decoder.specs.Reading.{placed, read_at};
+ghost use Rattle.decoder.specs.Front.{decode};
+ghost use Rattle.decoder.specs.Reading.{read_at};
 ghost use Rattle.bus_state.specs.Memory.{held};
 ghost use Rattle.bus_model.specs.Primitives.{new_state};
 ghost use Rattle.bus_model.specs.Calls.{start_in, submit_in, round_in, collect_in, buffer_after};
 ghost use Rattle.plain_bus.specs.Round.{injection_from};
 ghost use Rattle.bus.specs.Left.{left, leaves};
 ghost use Rattle.kettlefrost.specs.Flat.{flat, named};
-ghost use Rattle.kettlefrost.specs.Calls.{no_operation, read_answer, data_answer, length_written, answer_named, write_answer, buffer_after_write};
+ghost use Rattle.kettlefrost.specs.Calls.{no_operation, item_answer, read_answer, data_answer, length_written, answer_named, write_answer, buffer_after_write};
 
 use bus_state::State;
-use decoder::{Cursor, Front};
-use encoder::Written;
+use decoder::{Cursor, Fault, Front};
+use encoder::WriteError;
 use operation::{Code, Operation};
 use outcome::Answer;
 use slots::Slot;
@@ -226,41 +226,38 @@ fn no_operation(end: u32, fault: u32, next: usize) -> ReadAnswer
     }
 }
 
-// What stands at the front of the bytes from a position on.
-fn answer_front(at: usize, f: Front) -> ReadAnswer
-    requires { at + taken f < 2 ^ 64 }
-    ensures { result ≡ read_answer at (placed at f) }
+// What was read, with the position behind it.
+fn answer_item(item: Result<Operation, Fault>, next: usize) -> ReadAnswer
+    ensures { result ≡ item_answer item next }
 {
-    match f {
-        Front::End => no_operation(1, 0, at),
-        Front::Fault { number, size } => no_operation(0, number as u32, at + size),
-        Front::Found { op, size } => ReadAnswer {
+    match item {
+        Ok(op) => ReadAnswer {
             end: 0,
             fault: 0,
-            next: at + size,
+            next,
             operation: op.into(),
         },
+        Err(fault) => no_operation(0, u32::from(fault.number()), next),
     }
 }
 
 // The bytes of one operation by its code: a reader a kind, so that the operation goes through no memory.
-fn read_named(t: &[u8], at: usize) -> ReadAnswer
-    requires { at + length t.now < 2 ^ 64 }
-    ensures { result ≡ read_answer at (placed at (decode t.now)) }
+#[tactic(auto, using(decoder::proofs::Codes::kind_by_code), unfolding(decoder::specs::Front::decode, decoder::specs::Front::shape_of, decoder::specs::Front::judge))]
+fn read_named(t: &[u8], next: usize) -> ReadAnswer
+    ensures { result ≡ item_answer (decode t.now) next }
 {
-    let code = decoder::code_of(t);
-    match code {
-        0x01 => answer_front(at, decoder::read_format_error(t)),
-        0x10 => answer_front(at, decoder::read_can(t)),
-        0x11 => answer_front(at, decoder::read_fd(t)),
-        0x12 => answer_front(at, decoder::read_xl(t)),
-        0x20 => answer_front(at, decoder::read_confirm(t)),
-        0x30 => answer_front(at, decoder::read_arbitration_lost(t)),
-        0x31 => answer_front(at, decoder::read_bus_error(t)),
-        0x40 => answer_front(at, decoder::read_configuration(t)),
-        0x41 => answer_front(at, decoder::read_status(t)),
-        0x42 => answer_front(at, decoder::read_wakeup(t)),
-        _ => no_operation(0, 3, at + t.len()),
+    match Code::try_from(decoder::code_of(t)) {
+        Ok(Code::FormatError) => answer_item(decoder::read_format_error(t), next),
+        Ok(Code::CanTransmit) => answer_item(decoder::read_can(t), next),
+        Ok(Code::FdTransmit) => answer_item(decoder::read_fd(t), next),
+        Ok(Code::XlTransmit) => answer_item(decoder::read_xl(t), next),
+        Ok(Code::Confirm) => answer_item(decoder::read_confirm(t), next),
+        Ok(Code::ArbitrationLost) => answer_item(decoder::read_arbitration_lost(t), next),
+        Ok(Code::BusError) => answer_item(decoder::read_bus_error(t), next),
+        Ok(Code::Configuration) => answer_item(decoder::read_configuration(t), next),
+        Ok(Code::Status) => answer_item(decoder::read_status(t), next),
+        Ok(Code::Wakeup) => answer_item(decoder::read_wakeup(t), next),
+        Err(_) => answer_item(Err(Fault::UnknownCode), next),
     }
 }
 
@@ -268,15 +265,16 @@ fn read_named(t: &[u8], at: usize) -> ReadAnswer
 pub fn kf_read(buffer: &[u8], at: usize) -> ReadAnswer
     ensures { result ≡ read_answer at (read_at buffer.now at) }
 {
-    if buffer.len() <= at {
+    let Some(rest) = buffer.get(at..) else {
         return no_operation(1, 0, at);
+    };
+    if let Some(size) = decoder::whole_length(rest) {
+        return read_named(&rest[..size], at + size);
     }
-    let rest = &buffer[at..];
-    let whole = decoder::whole_length(rest);
-    if 0 < whole {
-        return read_named(&rest[..whole], at);
+    match decoder::read_front(rest) {
+        Some(Front { item, size }) => answer_item(item, at + size),
+        None => no_operation(1, 0, at),
     }
-    answer_front(at, decoder::read_front(rest))
 }
 
 // Where the data of an operation that ends at a position lie.
@@ -304,24 +302,20 @@ pub fn kf_data(buffer: &[u8], operation: FlatOperation, next: usize) -> PartAnsw
     }
 }
 
-fn length_written(w: Written) -> usize
+fn length_written(w: Result<usize, WriteError>) -> usize
     ensures { result ≡ length_written w }
 {
-    match w {
-        Written::Done(n) => n,
-        Written::RuleBroken => 0,
-        Written::BufferTooSmall => 0,
-    }
+    w.unwrap_or(0)
 }
 
 // Writes by the code: no operation is built on the way.
 #[tactic(auto, using(crate::proofs::Tables::named_by))]
-fn write_named(f: FlatOperation, payload: &[u8], buffer: &mut [u8]) -> Written
+fn write_named(f: FlatOperation, payload: &[u8], buffer: &mut [u8]) -> Result<usize, WriteError>
     ensures answer { result ≡ answer_named (named f) (length payload.now) (length buffer.old) }
     ensures written { buffer.new ≡ buffer_after_write (named f) payload.now buffer.old }
 {
     let Ok(code) = Code::try_from(f.code) else {
-        return Written::RuleBroken;
+        return Err(WriteError::RuleBroken);
     };
     match code {
         Code::FormatError => encoder::write_format_error(f.length, payload, buffer),

@@ -6,7 +6,7 @@ use mathlib.Core.List.{List, [], ◌∷◌, map}
 use Prim.Native.Nat.{ℕ}
 use native.Mathlib.Omega.{arith}
 use Rattle.std.proofs.lemmas.Bool.Decides.{nat_tests}
-use lib.Dec.{eqb}
+use lib.Dec.{leb, eqb}
 use borrow.Author.Tests.{eqb-true}
 use Rattle.std.specs.Prelude.{Result, Ok}
 use Rattle.std.specs.Result.{is_ok}
@@ -35,6 +35,9 @@ status_legal = look_up-one_of status_number status_table
 
 pub behaviour_is_ok : (x : ℕ) → is_ok (behaviour_from x) ≡ one_of x behaviours
 behaviour_is_ok = look_up-one_of behaviour_number behaviour_table
+
+pub configuration_kind_is_ok : (kind : ℕ) → is_ok (configuration_kind_from kind) ≡ (leb 1 kind && leb kind 4)
+configuration_kind_is_ok kind = grind (arith, nat_tests)
 
 pub configuration_legal : (kind value : ℕ) → legal (Configuration kind value) ≡ (is_ok (configuration_kind_from kind) && setting_rule kind value)
 unfolding all_after rules legal

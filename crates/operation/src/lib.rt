@@ -37,6 +37,7 @@ impl TryFrom<u32> for Code {
 
     ghost try_from_gives = { λ x r. r ≡ code_from x };
 
+    #[inline(always)]
     fn try_from(x: u32) -> Result<Code, NotInTable> {
         match x {
             0x01 => Ok(Code::FormatError),

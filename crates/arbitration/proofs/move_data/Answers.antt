@@ -14,7 +14,7 @@ shift-requires c =
     let w = (c.requires.frames (l.q + 1) (omega arith) (omega arith)).short in
     let n : c.data_length-n.result ≡ data_length (held_at c.args.four (l.q + 1)) =
     c.data_length-n.ensures ∙ ap data_length c.held_in.ensures in
-    (omega arith, omega arith, omega arith)
+    (omega arith, omega arith)
 
 pub loop-q-preserved : goal.loop-q-preserved
 loop-q-preserved c =

@@ -86,8 +86,8 @@ returns-then-buffer-fill c =
     )) in
     record { left = r.0; written = r.1 }
 
-pub slice_bounds-put_long-end : goal.slice_bounds-put_long-end
-slice_bounds-put_long-end c =
+pub slice_bounds-put-end : goal.slice_bounds-put-end
+slice_bounds-put-end c =
     let p = c.args.payload.now in
     let q = c.args.queues.now in
     let m = held c.args.s c.requires.0 p q in
@@ -98,9 +98,9 @@ slice_bounds-put_long-end c =
     omega (arith, h, (valid-count _ _ v.valid).1, c.if-s-node.false, v.queues) in
     r
 
-pub put_long-requires : goal.put_long-requires
+pub put-requires : goal.put-requires
 unfolding part
-put_long-requires c =
+put-requires c =
     let p = c.args.payload.now in
     let q = c.args.queues.now in
     let m = held c.args.s c.requires.0 p q in
@@ -109,7 +109,7 @@ put_long-requires c =
     let h : c.entry-d.result.fill ≤ 4096 = rw c.entry-d.ensures f in
     let k = length_part (4096 * c.args.node) c.entry-d.result.fill q
     (omega (arith, h, (valid-count _ _ v.valid).1, c.if-s-node.false, v.queues)) in
-    rw (add-sub_cancel_left, k) (omega (arith, c.if-buffer-fill.false), h)
+    rw (add-sub_cancel_left, k) (omega (arith, c.if-buffer-fill.false))
 
 pub with_entry-requires : goal.with_entry-requires
 with_entry-requires c =
@@ -145,5 +145,5 @@ returns c =
             passed m (collection m g.node room) v.lent_well_lem v.valid,
             collect-done m g.node room (lt-ltb _ _ c.if-s-node.false)
                 (ap (λ d. ltb room d.fill) (sym e) ∙ le-ltb _ _ c.if-buffer-fill.false),
-          ) (rw (c.put_long.ensures, add-sub_cancel_left, e));
+          ) (rw (c.put.ensures, add-sub_cancel_left, e));
     }

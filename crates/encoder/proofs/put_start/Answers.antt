@@ -1,11 +1,7 @@
--- Two runs, one behind the other.
-use Rattle.buffers.proofs.Laying.{in_turn_lem}
+-- The two runs, one behind the other.
+use Rattle.buffers.proofs.Laying.{behind}
 use Rattle.operation.specs.Number.{little_endian}
-use mathlib.Core.List.{[], ◌∷◌}
 use Rattle.encoder.proofs.put_start.Goals as goal
 
 pub returns : goal.returns
-returns c =
-    let a = c.args in
-    rw (c.put4-2.ensures, c.put4.ensures)
-    (in_turn_lem a.buffer.now ((little_endian 4 a.code) ∷ (little_endian 4 a.size) ∷ []))
+returns c = rw (c.put_number-2.ensures, c.put_number.ensures) (behind c.args.buffer.now (little_endian 4 c.args.code) (little_endian 4 c.args.size))

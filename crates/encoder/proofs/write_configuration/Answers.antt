@@ -1,48 +1,42 @@
--- The answer is decided first; an accepted write lays the header, a refused one nothing.
-use Rattle.encoder.proofs.Answers.{answers, accepted, written_bare, kept}
+-- A refusal changes nothing; else the runs of the header, by what a Configuration carries.
+use Rattle.buffers.proofs.Laying.{in_turn_lem}
+use Rattle.buffers.specs.Parts.{over}
+use Rattle.encoder.proofs.Answers.{answers, refused, done_bare}
+use Rattle.operation.specs.Format.{header}
+use Rattle.operation.specs.Number.{little_endian}
 use Rattle.operation.specs.declared.Operation.TheVariants.{Configuration}
 use borrow.Author.Tests.{ne_eqb}
-use mathlib.Core.Path.{refl, sym, ◌∙◌}
-use native.Mathlib.Omega.{arith}
+use mathlib.Core.List.{[], ◌∷◌, ◌++◌}
+use mathlib.Core.Path.{◌≡◌, refl, ◌∙◌}
+use Prim.Native.Nat.{ℕ}
 use Rattle.encoder.proofs.write_configuration.Goals as goal
 
-pub put_behaviour-requires : goal.put_behaviour-requires
-put_behaviour-requires c =
+pub returns-in_err-size : goal.returns-in_err-size
+returns-in_err-size c =
     let a = c.args in
-    let e = sym (answers (Configuration a.kind a.value) _ _ c.configuration_is_legal-lawful.ensures (rw c.configuration_length-head.ensures.0 at c.decide-answer.ensures)) ∙ c.in-Done.is in
-    let w = accepted e in
-    let n = rw c.if-kind-eq-ARBITRATION_LOST_BEHAVIOR.true at w.size in
-    omega (arith, n, w.fits)
+    let h = refused (Configuration a.kind a.value) a.payload.now a.buffer.now (answers (Configuration a.kind a.value) _ _ c.configuration_is_legal-lawful.ensures (rw c.configuration_length-head.ensures.0 at c.decide.ensures.value)) c.in_err-size.was c.from_residual.ensures.1 in
+    record { answer = h.0; written = h.1 }
 
 pub returns-then-kind-eq-ARBITRATION_LOST_BEHAVIOR : goal.returns-then-kind-eq-ARBITRATION_LOST_BEHAVIOR
+unfolding header
 returns-then-kind-eq-ARBITRATION_LOST_BEHAVIOR c =
     let a = c.args in
-    let e = sym (answers (Configuration a.kind a.value) _ _ c.configuration_is_legal-lawful.ensures (rw c.configuration_length-head.ensures.0 at c.decide-answer.ensures)) ∙ c.in-Done.is in
-    record { answer = sym e; written = written_bare (Configuration a.kind a.value) a.payload.now a.buffer.now e refl (rw c.if-kind-eq-ARBITRATION_LOST_BEHAVIOR.true c.put_behaviour.ensures) }
+    let e = answers (Configuration a.kind a.value) _ _ c.configuration_is_legal-lawful.ensures (rw c.configuration_length-head.ensures.0 at c.in_ok-size.ensures.value) in
+    let k = c.if-kind-eq-ARBITRATION_LOST_BEHAVIOR.true in
+    let n = rw (c.configuration_length-head.ensures.0, k) at c.in_ok-size.ensures.accepted.0 in
+    let h : c.put_number.new.buffer ≡ over a.buffer.now 0 (header (Configuration a.kind a.value)) =
+    rw (c.put_number.ensures, c.put.ensures, c.put_start.ensures, n, k)
+    (in_turn_lem a.buffer.now ((little_endian 4 0x40 ++ little_endian 4 10) ∷ (4 ∷ []) ∷ (little_endian 1 a.value) ∷ [])) in
+    record { answer = e; written = done_bare (Configuration a.kind a.value) a.payload.now a.buffer.now e refl h }
 
-pub put_baud_rate-requires : goal.put_baud_rate-requires
-put_baud_rate-requires c =
+pub returns : goal.returns
+unfolding header
+returns c =
     let a = c.args in
-    let e = sym (answers (Configuration a.kind a.value) _ _ c.configuration_is_legal-lawful.ensures (rw c.configuration_length-head.ensures.0 at c.decide-answer.ensures)) ∙ c.in-Done.is in
-    let w = accepted e in
-    let q = ne_eqb _ _ c.if-kind-eq-ARBITRATION_LOST_BEHAVIOR.false in
-    let n = rw q at w.size in
-    record { in_bounds = omega (arith, n, w.fits); kind_value = q }
-
-pub returns-else-kind-eq-ARBITRATION_LOST_BEHAVIOR : goal.returns-else-kind-eq-ARBITRATION_LOST_BEHAVIOR
-returns-else-kind-eq-ARBITRATION_LOST_BEHAVIOR c =
-    let a = c.args in
-    let e = sym (answers (Configuration a.kind a.value) _ _ c.configuration_is_legal-lawful.ensures (rw c.configuration_length-head.ensures.0 at c.decide-answer.ensures)) ∙ c.in-Done.is in
-    record { answer = sym e; written = written_bare (Configuration a.kind a.value) a.payload.now a.buffer.now e refl c.put_baud_rate.ensures }
-
-pub returns-in-RuleBroken : goal.returns-in-RuleBroken
-returns-in-RuleBroken c =
-    let a = c.args in
-    let e = answers (Configuration a.kind a.value) _ _ c.configuration_is_legal-lawful.ensures (rw c.configuration_length-head.ensures.0 at c.decide-answer.ensures) in
-    record { answer = e; written = kept _ _ _ (sym e ∙ c.in-RuleBroken.is) refl }
-
-pub returns-in-BufferTooSmall : goal.returns-in-BufferTooSmall
-returns-in-BufferTooSmall c =
-    let a = c.args in
-    let e = answers (Configuration a.kind a.value) _ _ c.configuration_is_legal-lawful.ensures (rw c.configuration_length-head.ensures.0 at c.decide-answer.ensures) in
-    record { answer = e; written = kept _ _ _ (sym e ∙ c.in-BufferTooSmall.is) refl }
+    let e = answers (Configuration a.kind a.value) _ _ c.configuration_is_legal-lawful.ensures (rw c.configuration_length-head.ensures.0 at c.in_ok-size.ensures.value) in
+    let k = ne_eqb _ _ c.if-kind-eq-ARBITRATION_LOST_BEHAVIOR.false in
+    let n = rw (c.configuration_length-head.ensures.0, k) at c.in_ok-size.ensures.accepted.0 in
+    let h : c.put_number-2.new.buffer ≡ over a.buffer.now 0 (header (Configuration a.kind a.value)) =
+    rw (c.put_number-2.ensures, c.put.ensures, c.put_start.ensures, n, k)
+    (in_turn_lem a.buffer.now ((little_endian 4 0x40 ++ little_endian 4 13) ∷ (a.kind ∷ []) ∷ (little_endian 4 a.value) ∷ [])) in
+    record { answer = e; written = done_bare (Configuration a.kind a.value) a.payload.now a.buffer.now e refl h }

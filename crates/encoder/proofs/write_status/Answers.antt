@@ -1,31 +1,27 @@
--- The answer is decided first; an accepted write lays the header, a refused one nothing.
-use Rattle.encoder.proofs.Answers.{answers, accepted, written_bare, kept}
+-- A refusal changes nothing; else the runs of the header, one behind the other.
+use Rattle.buffers.proofs.Laying.{in_turn_lem}
+use Rattle.buffers.specs.Parts.{over}
+use Rattle.encoder.proofs.Answers.{answers, refused, done_bare}
+use Rattle.operation.specs.Format.{header}
+use Rattle.operation.specs.Number.{little_endian}
 use Rattle.operation.specs.declared.Operation.TheVariants.{Status}
-use mathlib.Core.Path.{refl, sym, ◌∙◌}
-use native.Mathlib.Omega.{arith}
+use mathlib.Core.List.{[], ◌∷◌, ◌++◌}
+use Prim.Native.Nat.{◌+◌}
+use mathlib.Core.Path.{◌≡◌, refl}
 use Rattle.encoder.proofs.write_status.Goals as goal
 
-pub put_status-requires : goal.put_status-requires
-put_status-requires c =
+pub returns-in_err-size : goal.returns-in_err-size
+returns-in_err-size c =
     let a = c.args in
-    let e = sym (answers (Status a.status) _ _ c.status_is_legal-lawful.ensures c.decide-answer.ensures) ∙ c.in-Done.is in
-    let w = accepted e in
-    omega (arith, w.size, w.fits)
+    let h = refused (Status a.status) a.payload.now a.buffer.now (answers (Status a.status) _ _ c.status_is_legal-lawful.ensures c.decide.ensures.value) c.in_err-size.was c.from_residual.ensures.1 in
+    record { answer = h.0; written = h.1 }
 
-pub returns-in-Done : goal.returns-in-Done
-returns-in-Done c =
+pub returns : goal.returns
+unfolding header
+returns c =
     let a = c.args in
-    let e = sym (answers (Status a.status) _ _ c.status_is_legal-lawful.ensures c.decide-answer.ensures) ∙ c.in-Done.is in
-    record { answer = sym e; written = written_bare (Status a.status) a.payload.now a.buffer.now e refl c.put_status.ensures }
-
-pub returns-in-RuleBroken : goal.returns-in-RuleBroken
-returns-in-RuleBroken c =
-    let a = c.args in
-    let e = answers (Status a.status) _ _ c.status_is_legal-lawful.ensures c.decide-answer.ensures in
-    record { answer = e; written = kept _ _ _ (sym e ∙ c.in-RuleBroken.is) refl }
-
-pub returns-in-BufferTooSmall : goal.returns-in-BufferTooSmall
-returns-in-BufferTooSmall c =
-    let a = c.args in
-    let e = answers (Status a.status) _ _ c.status_is_legal-lawful.ensures c.decide-answer.ensures in
-    record { answer = e; written = kept _ _ _ (sym e ∙ c.in-BufferTooSmall.is) refl }
+    let e = answers (Status a.status) _ _ c.status_is_legal-lawful.ensures c.in_ok-size.ensures.value in
+    let h : c.put.new.buffer ≡ over a.buffer.now 0 (header (Status a.status)) =
+    rw (c.put.ensures, c.put_start.ensures, c.in_ok-size.ensures.accepted.0)
+    (in_turn_lem a.buffer.now ((little_endian 4 0x41 ++ little_endian 4 9) ∷ (a.status ∷ []) ∷ [])) in
+    record { answer = e; written = done_bare (Status a.status) a.payload.now a.buffer.now e refl h }

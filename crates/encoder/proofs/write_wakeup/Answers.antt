@@ -1,30 +1,27 @@
--- The answer is decided first; an accepted write lays the header, a refused one nothing.
-use Rattle.encoder.proofs.Answers.{wakeup-lawful, answers, accepted, written_bare, kept}
+-- A refusal changes nothing; else the runs of the header, one behind the other.
+use Rattle.buffers.proofs.Laying.{in_turn_lem}
+use Rattle.buffers.specs.Parts.{over}
+use Rattle.encoder.proofs.Answers.{wakeup-lawful, answers, refused, done_bare}
 use Rattle.operation.specs.Format.{header}
+use Rattle.operation.specs.Number.{little_endian}
 use Rattle.operation.specs.declared.Operation.TheVariants.{Wakeup}
-use mathlib.Core.Path.{refl, sym, ◌∙◌}
-use native.Mathlib.Omega.{arith}
+use mathlib.Core.List.{[], ◌∷◌, ◌++◌}
+use Prim.Native.Nat.{◌+◌}
+use mathlib.Core.Path.{◌≡◌, refl}
 use Rattle.encoder.proofs.write_wakeup.Goals as goal
 
-pub put_start-requires : goal.put_start-requires
-put_start-requires c =
-    let e = sym (answers Wakeup _ _ wakeup-lawful c.decide-answer.ensures) ∙ c.in-Done.is in
-    let w = accepted e in
-    omega (arith, w.size, w.fits)
-
-pub returns-in-Done : goal.returns-in-Done
-unfolding header
-returns-in-Done c =
-    let e = sym (answers Wakeup _ _ wakeup-lawful c.decide-answer.ensures) ∙ c.in-Done.is in
+pub returns-in_err-size : goal.returns-in_err-size
+returns-in_err-size c =
     let a = c.args in
-    record { answer = sym e; written = written_bare Wakeup a.payload.now a.buffer.now e refl c.put_start.ensures }
+    let h = refused Wakeup a.payload.now a.buffer.now (answers Wakeup _ _ wakeup-lawful c.decide.ensures.value) c.in_err-size.was c.from_residual.ensures.1 in
+    record { answer = h.0; written = h.1 }
 
-pub returns-in-RuleBroken : goal.returns-in-RuleBroken
-returns-in-RuleBroken c =
-    let e = answers Wakeup _ _ wakeup-lawful c.decide-answer.ensures in
-    record { answer = e; written = kept _ _ _ (sym e ∙ c.in-RuleBroken.is) refl }
-
-pub returns-in-BufferTooSmall : goal.returns-in-BufferTooSmall
-returns-in-BufferTooSmall c =
-    let e = answers Wakeup _ _ wakeup-lawful c.decide-answer.ensures in
-    record { answer = e; written = kept _ _ _ (sym e ∙ c.in-BufferTooSmall.is) refl }
+pub returns : goal.returns
+unfolding header
+returns c =
+    let a = c.args in
+    let e = answers Wakeup _ _ wakeup-lawful c.in_ok-size.ensures.value in
+    let h : c.put_start.new.buffer ≡ over a.buffer.now 0 (header Wakeup) =
+    rw (c.put_start.ensures, c.in_ok-size.ensures.accepted.0)
+    (in_turn_lem a.buffer.now ((little_endian 4 0x42 ++ little_endian 4 8) ∷ [])) in
+    record { answer = e; written = done_bare Wakeup a.payload.now a.buffer.now e refl h }
