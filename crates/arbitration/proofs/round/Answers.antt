@@ -42,7 +42,6 @@ arbitrate-requires c =
     record {
       drawn = (c.requires.drawn.0, rw c.in-Some.is at c.requires.drawn.1);
       e_value = right_code a.s a.e q;
-      payload_len = c.requires.payload_len;
     }
 
 pub returns-in_default : goal.returns-in_default
