@@ -17,15 +17,11 @@ ghost use Rattle.bus.specs.Left.{left, leaves};
 ghost use Rattle.bus.specs.Given.{started_by, Scanned, Counted, Taken};
 ghost use Rattle.bus.specs.Tested.{lent_sizes, tested};
 
-use bus_state::{NodeState, State};
+use bus_state::{NodeState, PAYLOAD_BYTES, QUEUE_BYTES, State};
 use outcome::{Answer, Change, Done, Outcome, Refusal};
 use slots::Slot;
 
 const SLOTS: usize = bus_state::SLOT_COUNT;
-
-const PAYLOAD_BYTES: usize = 65536;
-
-const QUEUE_BYTES: usize = 32768;
 
 // What a node starts with.
 const START_STATUS: u8 = operation::ERROR_ACTIVE;
@@ -137,13 +133,10 @@ pub fn submit(
 {
     let at = submission::first_slot(node);
     if let Err(refusal) = test_lent(SLOTS, payload.len(), queues.len(), key) {
-        return Change {
-            outcome: Err(refusal),
-            state: s,
-            at,
-            block: four,
-        };
+        return Change::refused(refusal, s, at, four);
     }
+    let payload = payload.as_mut_array::<PAYLOAD_BYTES>().unwrap();
+    let queues = queues.as_mut_array::<QUEUE_BYTES>().unwrap();
     submission::submit(s, four, payload, queues, node, buffer)
 }
 
@@ -165,13 +158,10 @@ pub fn round(
 {
     let at = scan::winner_block(key);
     if let Err(refusal) = test_lent(SLOTS, payload.len(), queues.len(), key) {
-        return Change {
-            outcome: Err(refusal),
-            state: s,
-            at,
-            block: four,
-        };
+        return Change::refused(refusal, s, at, four);
     }
+    let payload = payload.as_mut_array::<PAYLOAD_BYTES>().unwrap();
+    let queues = queues.as_mut_array::<QUEUE_BYTES>().unwrap();
     let best = scan::winner_of(key);
     let e = arbitration::injection_of(injected, code, detector);
     arbitration::round(s, best, four, ids, payload, queues, e)

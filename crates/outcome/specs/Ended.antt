@@ -6,6 +6,8 @@ use Rattle.slots.specs.declared.Slot.{Slot}
 use Rattle.bus_state.specs.Memory.{Memory, held}
 use Rattle.bus_model.specs.Calls.{Reply, wrong_memory, answers, Result}
 use Rattle.outcome.specs.Outcome.{Outcome, outcome_of}
+use Rattle.bus_state.specs.declared.State.{State}
+use Rattle.outcome.specs.declared.Refusal.{Refusal}
 use Rattle.outcome.specs.declared.Refusal.TheVariants.{WrongMemory}
 use Rattle.outcome.specs.declared.Change.{Change}
 
@@ -18,6 +20,10 @@ outcome_is (answers a) = outcome_of a
 pub record Ended : Type 0 where
   pub outcome : Outcome
   pub memory : Memory
+
+-- the change of a call that is refused: what is there stays
+abbrev pub refused : Refusal → State → ℕ → List Slot → Change
+refused refusal s at block = record { outcome = Err refusal; state = s; at = at; block = block }
 
 -- what a change comes to on the slots that it was made for
 abbrev pub ended_by : Change → List Slot → List ℕ → List ℕ → Ended

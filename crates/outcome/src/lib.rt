@@ -4,6 +4,7 @@
 
 ghost use Rattle.std.specs.Prelude.{◌≡◌};
 ghost use Rattle.outcome.specs.Outcome.{refusal_number, answer_of};
+ghost use Rattle.outcome.specs.Ended.{refused};
 
 use bus_state::State;
 use slots::Slot;
@@ -55,6 +56,20 @@ pub struct Change {
     pub state: State,
     pub at: usize,
     pub block: [Slot; 4],
+}
+
+impl Change {
+    // Of a refusal: the four slots that are there are put back.
+    pub fn refused(refusal: Refusal, state: State, at: usize, block: [Slot; 4]) -> Change
+        ensures { result ≡ refused refusal state at block }
+    {
+        Change {
+            outcome: Err(refusal),
+            state,
+            at,
+            block,
+        }
+    }
 }
 
 // What a public call answers: the number of 01; of a round that is carried out sender, ID, whether errored, and age, or that it

@@ -3,6 +3,7 @@
 use mathlib.Core.Path.{◌≡◌, refl, sym, ap, ◌∙◌}
 use mathlib.Core.Bool.{Bool, true, false, cond}
 use mathlib.Core.List.{List, []}
+use mathlib.Core.Logic.{◌⊎◌, inl, inr}
 use Prim.Native.Nat.{ℕ, zero, suc, ◌+◌, ◌*◌, ◌<◌}
 use native.Mathlib.Nat.{add-zero}
 use native.Mathlib.Omega.{arith}
@@ -41,6 +42,14 @@ quiet d (SetRate i rate) = true
 quiet d (SetBehaviour behaviour) = true
 quiet d (SetStatus status) = true
 quiet d Wake = is_off d
+
+pub quiet_rest : (d : NodeState) {e : Effect}
+    → (e ≡ Nothing) ⊎ (((i : ℕ) × (rate : ℕ) × (e ≡ SetRate i rate)) ⊎ (((behaviour : ℕ) × (e ≡ SetBehaviour behaviour)) ⊎ ((status : ℕ) × (e ≡ SetStatus status))))
+    → quiet d e ≡ true
+quiet_rest d (inl q) = rw q
+quiet_rest d (inr (inl q)) = rw q.2
+quiet_rest d (inr (inr (inl q))) = rw q.1
+quiet_rest d (inr (inr (inr q))) = rw q.1
 
 -- a Format Error has ten bytes besides those that it answers
 pub answer_length_lem : (bytes : List ℕ) → length (format_error bytes) ≡ answer_length (length bytes)

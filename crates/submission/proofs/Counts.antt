@@ -24,16 +24,21 @@ use Rattle.submission.specs.Counting.{is_wakeup, unreached, wakeup_length, wakeu
 use Rattle.submission.specs.Carrying.{memory_after, memory_after_all}
 use Rattle.submission.specs.declared.Effect.{Effect}
 use Rattle.submission.specs.declared.Effect.TheVariants.{Nothing, Transmit, Answer, SetRate, SetBehaviour, SetStatus, Wake}
-use Rattle.submission.specs.declared.Verdict.{Verdict}
-use Rattle.submission.specs.declared.Verdict.TheVariants.{Goes, FourPending, QueueFull}
+use Rattle.submission.specs.declared.Lack.{Lack}
+use Rattle.submission.specs.declared.Lack.TheVariants.{FourPending, QueueFull}
+use Rattle.std.specs.Prelude.{Result, Ok, Err}
 use Rattle.submission.proofs.Entries.{same-entry, entry_again}
 use Rattle.submission.proofs.Carries.{answer_length_lem, woken_memory}
 
--- a verdict with the memory after the step
-abbrev pub gives : Verdict → Memory → Progress
-gives Goes m = goes_on m
-gives FourPending m = stops four_pending
-gives QueueFull m = stops queue_full
+-- the model's refusal, by what a step lacks
+abbrev stopped_by : Lack → Refusal
+stopped_by FourPending = four_pending
+stopped_by QueueFull = queue_full
+
+-- what a check gives, with the memory after the step
+abbrev pub gives : Result (Unit {0}) Lack → Memory → Progress
+gives (Ok z) m = goes_on m
+gives (Err lack) m = stops (stopped_by lack)
 
 -- ---- one step
 
@@ -43,7 +48,7 @@ module _ (m : Memory) (k : ℕ) where
   transmit-counts op bytes = go (off_at m k) (leb slots_per_node (entry_at m k).pending) (put_frame m k op (drop (head_length op) bytes))
     where
       go : (o c : Bool) (x : Memory)
-          → cond o (goes_on m) (cond c (stops four_pending) (goes_on x)) ≡ gives (cond o Goes (cond c FourPending Goes)) (cond o m x)
+          → cond o (goes_on m) (cond c (stops four_pending) (goes_on x)) ≡ gives (cond o (Ok tt) (cond c (Err FourPending) (Ok tt))) (cond o m x)
       go true c x = refl
       go false true x = refl
       go false false x = refl
@@ -52,7 +57,7 @@ module _ (m : Memory) (k : ℕ) where
   unfolding answer_in check is_wakeup entry_check memory_after
   answer-counts bytes = rw (← answer_length_lem bytes) (go (room_at m k (format_error bytes)) (append m k (format_error bytes)))
     where
-      go : (r : Bool) (x : Memory) → cond r (goes_on x) (stops queue_full) ≡ gives (cond r Goes QueueFull) x
+      go : (r : Bool) (x : Memory) → cond r (goes_on x) (stops queue_full) ≡ gives (cond r (Ok tt) (Err QueueFull)) x
       go true x = refl
       go false x = refl
 
@@ -74,7 +79,7 @@ module _ (m : Memory) (k : ℕ) where
   wake-counts bytes = rw (room-counts 0 m.state.count) (go (off_at m k) (wakeup_room m.state.nodes k 1 0 m.state.count) _)
     where
       go : (o r : Bool) (x : Memory)
-          → cond o (goes_on m) (cond r (goes_on x) (stops queue_full)) ≡ gives (cond (not o) (cond r Goes QueueFull) Goes) (cond o m x)
+          → cond o (goes_on m) (cond r (goes_on x) (stops queue_full)) ≡ gives (cond (not o) (cond r (Ok tt) (Err QueueFull)) (Ok tt)) (cond o m x)
       go true r x = refl
       go false true x = refl
       go false false x = refl
@@ -151,11 +156,10 @@ items-count k (i ∷ is) m =
     ap (items_in k is) (item-counts m k i)
     ∙ rw (← e) (go (check m.state k (effect_of i) (length (bytes_of i))) (memory_after m k (effect_of i) (bytes_of i)) (items-count k is _))
   where
-    go : (v : Verdict) (x : Memory) → items_in k is (goes_on x) ≡ gives (check_items k is x.state) (memory_after_all k is x)
+    go : (v : Result (Unit {0}) Lack) (x : Memory) → items_in k is (goes_on x) ≡ gives (check_items k is x.state) (memory_after_all k is x)
         → items_in k is (gives v x) ≡ gives (and_then v (check_items k is x.state)) (memory_after_all k is x)
-    go Goes x h = h
-    go FourPending x h = stopped k is four_pending
-    go QueueFull x h = stopped k is queue_full
+    go (Ok z) x h = h
+    go (Err lack) x h = stopped k is (stopped_by lack)
 
 -- the state of what a step leaves
 pub state_after_step : (m : Memory) (k : ℕ) (e : Effect) (bytes : List ℕ) {x : Memory} → x ≡ memory_after m k e bytes

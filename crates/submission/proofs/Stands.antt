@@ -17,7 +17,7 @@ use Rattle.submission.specs.Counting.{cleared, status_set, entry_check, entry_af
 use Rattle.submission.specs.Carrying.{wakeups_laid}
 use Rattle.submission.specs.declared.Effect.{Effect}
 use Rattle.submission.specs.declared.Effect.TheVariants.{Nothing, Transmit, Answer, SetRate, SetBehaviour, SetStatus, Wake}
-use Rattle.submission.specs.declared.Verdict.TheVariants.{Goes}
+use Rattle.std.specs.Prelude.{Ok}
 use Rattle.submission.proofs.Entries.{same-entry}
 use Rattle.submission.proofs.Wakes.{woken_length, woken_none, room_next, laid_next, woken_next}
 use Rattle.submission.proofs.Checks.{answer-fits}
@@ -27,7 +27,7 @@ abbrev pub stand : State → ℕ → ℕ → NodeState → State
 stand s k u d = with_entry (woken_by s k u) k d
 
 -- the sender's fill stays within its queue
-pub fill-after : (d : NodeState) (e : Effect) (size : ℕ) → d.fill ≤ bytes_per_queue → entry_check d e size ≡ Goes
+pub fill-after : (d : NodeState) (e : Effect) (size : ℕ) → d.fill ≤ bytes_per_queue → entry_check d e size ≡ Ok tt
     → (entry_after d e size).fill ≤ bytes_per_queue
 unfolding entry_after status_set
 fill-after d Nothing size h g = h

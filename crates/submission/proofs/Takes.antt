@@ -1,9 +1,9 @@
 -- The step at a position of a buffer, from what was read there.
 -- Assumes nothing.
-use mathlib.Core.Path.{◌≡◌, refl, sym, ap, ◌∙◌, subst}
+use mathlib.Core.Path.{◌≡◌, refl, sym, ap, ◌∙◌}
 use mathlib.Core.Bool.{Bool, true, false, cond}
 use mathlib.Core.List.{List}
-use Prim.Native.Nat.{ℕ, ◌+◌, ◌-◌, ◌≤◌, ◌<◌}
+use Prim.Native.Nat.{ℕ, ◌+◌, ◌-◌, ◌<◌}
 use native.Mathlib.Omega.{arith}
 use lib.Dec.{eqb}
 use lib.ListN.{length, take, drop, length-drop}
@@ -23,11 +23,9 @@ use Rattle.decoder.proofs.Found.{found}
 use Rattle.decoder.proofs.Payload.{data_found}
 use Rattle.decoder.proofs.Items.{Spans}
 use Rattle.plain_bus.specs.Submit.{unanswered}
-use Rattle.submission.specs.Effects.{operation_effect, fault_effect, SmallRate, DataFit, Taken, NextIs}
+use Rattle.submission.specs.Effects.{operation_effect, fault_effect, SmallRate, DataFit, Taken}
 use Rattle.submission.specs.declared.Effect.TheVariants.{Nothing, Transmit, Answer, SetRate, SetBehaviour}
 use Rattle.submission.specs.declared.Step.{Step}
-use Rattle.submission.specs.declared.Next.{Next}
-use Rattle.submission.specs.declared.Next.TheVariants as next
 use Rattle.submission.proofs.Settings.{rate_kind}
 
 -- ---- the effect of an operation that meets its rules
@@ -120,10 +118,7 @@ module _ (s : List ℕ) (at : ℕ) (r : Step) where
     within = n.within;
   }
 
--- ---- what stands at a position
+-- ---- a pass over a buffer ends
 
-pub next-end : (s : List ℕ) (at : ℕ) {n : Next} → NextIs s at n → n ≡ next.End → length s ≤ at
-next-end s at h e = subst (NextIs s at) e h
-
-pub next-taken : (s : List ℕ) (at : ℕ) {n : Next} {r : Step} → NextIs s at n → n ≡ next.At r → Taken s at r
-next-taken s at h e = subst (NextIs s at) e h
+pub step-smaller : {s : List ℕ} {at : ℕ} {r : Step} → Taken s at r → length s - r.end < length s - at
+step-smaller t = omega (arith, t.forward, t.within)

@@ -18,8 +18,9 @@ use Rattle.submission.specs.Counting.{is_wakeup, wakeup_room, woken_by, entry_ch
 use Rattle.submission.specs.Carrying.{memory_after, memory_after_all}
 use Rattle.submission.specs.declared.Effect.{Effect}
 use Rattle.submission.specs.declared.Step.{Step}
-use Rattle.submission.specs.declared.Verdict.{Verdict}
-use Rattle.submission.specs.declared.Verdict.TheVariants.{Goes, FourPending, QueueFull}
+use Rattle.submission.specs.declared.Lack.{Lack}
+use Rattle.submission.specs.declared.Lack.TheVariants.{QueueFull}
+use Rattle.std.specs.Prelude.{Result, Ok, Err}
 use Rattle.submission.proofs.Entries.{entry_there, entry_last, stored_again}
 use Rattle.submission.proofs.Wakes.{woken_sender}
 use Rattle.submission.proofs.Counts.{state_after_step}
@@ -27,7 +28,7 @@ use Rattle.submission.proofs.Counts.{state_after_step}
 -- ---- a step from the state with the sender's entry d, by its kind
 
 module _ (s : State) (k : ℕ) (d : NodeState) (h : k < length s.nodes) (e : Effect) (size : ℕ) where
-  check-wakeup : is_wakeup d e ≡ true → check (with_entry s k d) k e size ≡ cond (wakeup_room (with_entry s k d).nodes k 1 0 s.count) Goes QueueFull
+  check-wakeup : is_wakeup d e ≡ true → check (with_entry s k d) k e size ≡ cond (wakeup_room (with_entry s k d).nodes k 1 0 s.count) (Ok tt) (Err QueueFull)
   unfolding check
   check-wakeup w = rw (entry_there s k d h, w)
 
@@ -50,7 +51,7 @@ module _ (s : State) (k : ℕ) (d : NodeState) (h : k < length s.nodes) (e : Eff
 none_left : (s : List ℕ) (at : ℕ) → length s ≤ at → items_of (drop at s) ≡ []
 none_left s at h = rw (drop_of_length-le s h) items-nil
 
-pub check-end : (s : List ℕ) (at k : ℕ) (x : State) → length s ≤ at → check_items k (items_of (drop at s)) x ≡ Goes
+pub check-end : (s : List ℕ) (at k : ℕ) (x : State) → length s ≤ at → check_items k (items_of (drop at s)) x ≡ Ok tt
 unfolding check_items
 check-end s at k x h = ap (λ (is : List Item). check_items k is x) (none_left s at h)
 
@@ -73,19 +74,18 @@ module _ (s : List ℕ) (at : ℕ) (r : Step) (t : Taken s at r) (k : ℕ) where
       let n : length (bytes_of t.item) ≡ r.end - at = ap length t.bytes ∙ bytes-length s at r.end t.forward t.within in
       ap (λ (is : List Item). check_items k is x) t.items ∙ rw (← t.effect, n)
 
-  check-fails : (x : State) (v : Verdict) → check x k r.effect (r.end - at) ≡ v → ((w : Verdict) → and_then v w ≡ v)
-      → check_items k (items_of (drop at s)) x ≡ v
-  check-fails x v e f = check_unrolled x ∙ rw e (f _)
+  check-fails : (x : State) {lack : Lack} → check x k r.effect (r.end - at) ≡ Err lack → check_items k (items_of (drop at s)) x ≡ Err lack
+  check-fails x e = check_unrolled x ∙ rw e
 
-  check-goes : (x : State) → check x k r.effect (r.end - at) ≡ Goes
+  check-goes : (x : State) → check x k r.effect (r.end - at) ≡ Ok tt
       → check_items k (items_of (drop at s)) x ≡ check_items k (items_of (drop r.end s)) (state_after x k r.effect (r.end - at))
   check-goes x e = check_unrolled x ∙ rw e
 
   -- by the kind of the step, from the state with the sender's entry d
   module _ (x : State) (d : NodeState) (h : k < length x.nodes) where
     pub wakeup-fails : is_wakeup d r.effect ≡ true → wakeup_room (with_entry x k d).nodes k 1 0 x.count ≡ false
-        → check_items k (items_of (drop at s)) (with_entry x k d) ≡ QueueFull
-    wakeup-fails w e = check-fails (with_entry x k d) QueueFull (check-wakeup x k d h r.effect (r.end - at) w ∙ rw e) (λ v. refl)
+        → check_items k (items_of (drop at s)) (with_entry x k d) ≡ Err QueueFull
+    wakeup-fails w e = check-fails (with_entry x k d) (check-wakeup x k d h r.effect (r.end - at) w ∙ rw e)
 
     pub wakeup-goes : is_wakeup d r.effect ≡ true → wakeup_room (with_entry x k d).nodes k 1 0 x.count ≡ true
         → check_items k (items_of (drop at s)) (with_entry x k d)
@@ -94,24 +94,23 @@ module _ (s : List ℕ) (at : ℕ) (r : Step) (t : Taken s at r) (k : ℕ) where
         check-goes (with_entry x k d) (check-wakeup x k d h r.effect (r.end - at) w ∙ rw e)
         ∙ ap (check_items k (items_of (drop r.end s))) (after-wakeup x k d h r.effect (r.end - at) w)
 
-    pub entry-fails : (v : Verdict) → is_wakeup d r.effect ≡ false → entry_check d r.effect (r.end - at) ≡ v → ((w : Verdict) → and_then v w ≡ v)
-        → check_items k (items_of (drop at s)) (with_entry x k d) ≡ v
-    entry-fails v w e = check-fails (with_entry x k d) v (check-entry x k d h r.effect (r.end - at) w ∙ e)
+    pub entry-fails : {lack : Lack} → is_wakeup d r.effect ≡ false → entry_check d r.effect (r.end - at) ≡ Err lack
+        → check_items k (items_of (drop at s)) (with_entry x k d) ≡ Err lack
+    entry-fails w e = check-fails (with_entry x k d) (check-entry x k d h r.effect (r.end - at) w ∙ e)
 
-    pub entry-goes : is_wakeup d r.effect ≡ false → entry_check d r.effect (r.end - at) ≡ Goes
+    pub entry-goes : is_wakeup d r.effect ≡ false → entry_check d r.effect (r.end - at) ≡ Ok tt
         → check_items k (items_of (drop at s)) (with_entry x k d)
         ≡ check_items k (items_of (drop r.end s)) (with_entry x k (entry_after d r.effect (r.end - at)))
     entry-goes w e =
         check-goes (with_entry x k d) (check-entry x k d h r.effect (r.end - at) w ∙ e)
         ∙ ap (check_items k (items_of (drop r.end s))) (after-entry x k d h r.effect (r.end - at) w)
 
-  pub check-first : (x : State) → check_items k (items_of (drop at s)) x ≡ Goes → check x k r.effect (r.end - at) ≡ Goes
+  pub check-first : (x : State) → check_items k (items_of (drop at s)) x ≡ Ok tt → check x k r.effect (r.end - at) ≡ Ok tt
   check-first x e = go (check x k r.effect (r.end - at)) _ (sym (check_unrolled x) ∙ e)
     where
-      go : (v w : Verdict) → and_then v w ≡ Goes → v ≡ Goes
-      go Goes w e = refl
-      go FourPending w e = e
-      go QueueFull w e = e
+      go : (v w : Result (Unit {0}) Lack) → and_then v w ≡ Ok tt → v ≡ Ok tt
+      go (Ok z) w e = refl
+      go (Err lack) w e = e
 
   pub memory_unrolled : (m : Memory)
       → memory_after_all k (items_of (drop at s)) m
@@ -126,7 +125,7 @@ module _ (s : List ℕ) (at : ℕ) (r : Step) (t : Taken s at r) (k : ℕ) where
         let n = bytes-length s at r.end t.forward t.within in
         rw n at (state_after_step m k r.effect (take (r.end - at) (drop at s)) e)
 
-    pub step-check : check_items k (items_of (drop at s)) m.state ≡ Goes → check_items k (items_of (drop r.end s)) x.state ≡ Goes
+    pub step-check : check_items k (items_of (drop at s)) m.state ≡ Ok tt → check_items k (items_of (drop r.end s)) x.state ≡ Ok tt
     step-check g = rw step-state (sym (check-goes m.state (check-first m.state g)) ∙ g)
 
     pub step-memory : memory_after_all k (items_of (drop r.end s)) x ≡ memory_after_all k (items_of (drop at s)) m

@@ -1,7 +1,7 @@
 -- Internal. Submitting a buffer, as far as the state goes: every refusal and every change of the state is decided by statuses, counts and
 -- fills alone (01, "Handing in"). The lent memory takes no part.
 -- Assumes nothing.
-use Rattle.std.specs.Prelude.{ℕ, zero, suc, ◌+◌, ◌*◌, List, [], ◌∷◌, Bool, true, false, cond, not, ◌&&◌, ◌||◌, leb, eqb, length, get_or, set}
+use Rattle.std.specs.Prelude.{ℕ, zero, suc, ◌+◌, ◌*◌, List, [], ◌∷◌, Bool, true, false, cond, not, ◌&&◌, ◌||◌, leb, eqb, length, get_or, set, Result, Ok, Err}
 use Rattle.operation.specs.Format.{length_of}
 use Rattle.operation.specs.declared.Operation.TheVariants.{FormatError, Wakeup}
 use Rattle.decoder.specs.Stream.{Item, bytes_of}
@@ -13,8 +13,8 @@ use Rattle.bus_state.specs.declared.NodeState.{NodeState}
 use Rattle.submission.specs.Effects.{effect_of}
 use Rattle.submission.specs.declared.Effect.{Effect}
 use Rattle.submission.specs.declared.Effect.TheVariants.{Nothing, Transmit, Answer, SetRate, SetBehaviour, SetStatus, Wake}
-use Rattle.submission.specs.declared.Verdict.{Verdict}
-use Rattle.submission.specs.declared.Verdict.TheVariants.{Goes, FourPending, QueueFull}
+use Rattle.submission.specs.declared.Lack.{Lack}
+use Rattle.submission.specs.declared.Lack.TheVariants.{FourPending, QueueFull}
 
 -- ---- Wakeups of node k, each to every other node that is not Bus-Off, on the entries of all nodes
 
@@ -63,15 +63,15 @@ is_wakeup d Wake = not (is_off d)
 abbrev pub answer_length : ℕ → ℕ
 answer_length size = length_of (FormatError size)
 
--- whether the entry lets the step be done, or the refusal
-unfoldable pub entry_check : NodeState → Effect → ℕ → Verdict
-entry_check d Nothing size = Goes
-entry_check d (Transmit op) size = cond (is_off d) Goes (cond (leb slots_per_node d.pending) FourPending Goes)
-entry_check d Answer size = cond (leb (d.fill + answer_length size) bytes_per_queue) Goes QueueFull
-entry_check d (SetRate i rate) size = Goes
-entry_check d (SetBehaviour behaviour) size = Goes
-entry_check d (SetStatus status) size = Goes
-entry_check d Wake size = Goes
+-- whether the entry lets the step be done, or what it lacks
+unfoldable pub entry_check : NodeState → Effect → ℕ → Result (Unit {0}) Lack
+entry_check d Nothing size = Ok tt
+entry_check d (Transmit op) size = cond (is_off d) (Ok tt) (cond (leb slots_per_node d.pending) (Err FourPending) (Ok tt))
+entry_check d Answer size = cond (leb (d.fill + answer_length size) bytes_per_queue) (Ok tt) (Err QueueFull)
+entry_check d (SetRate i rate) size = Ok tt
+entry_check d (SetBehaviour behaviour) size = Ok tt
+entry_check d (SetStatus status) size = Ok tt
+entry_check d Wake size = Ok tt
 
 -- no pending frame and no byte in the queue
 abbrev pub cleared : NodeState → NodeState
@@ -93,10 +93,10 @@ entry_after d Wake size = d
 
 -- ---- and on the state: a Wakeup by all queues, any other step of node k by its entry
 
--- whether the step can be done, or the refusal
-unfoldable pub check : State → ℕ → Effect → ℕ → Verdict
+-- whether the step can be done, or what it lacks
+unfoldable pub check : State → ℕ → Effect → ℕ → Result (Unit {0}) Lack
 check s k e size =
-    cond (is_wakeup (node_state s k) e) (cond (wakeup_room s.nodes k 1 0 s.count) Goes QueueFull) (entry_check (node_state s k) e size)
+    cond (is_wakeup (node_state s k) e) (cond (wakeup_room s.nodes k 1 0 s.count) (Ok tt) (Err QueueFull)) (entry_check (node_state s k) e size)
 
 -- the state after the step
 unfoldable pub state_after : State → ℕ → Effect → ℕ → State
@@ -105,12 +105,11 @@ state_after s k e size =
 
 -- ---- all steps of a buffer, one by one: the first that can't be done decides
 
-abbrev pub and_then : Verdict → Verdict → Verdict
-and_then Goes v = v
-and_then FourPending v = FourPending
-and_then QueueFull v = QueueFull
+abbrev pub and_then : Result (Unit {0}) Lack → Result (Unit {0}) Lack → Result (Unit {0}) Lack
+and_then (Ok z) v = v
+and_then (Err lack) v = Err lack
 
-unfoldable pub check_items : ℕ → List Item → State → Verdict
-check_items k [] s = Goes
+unfoldable pub check_items : ℕ → List Item → State → Result (Unit {0}) Lack
+check_items k [] s = Ok tt
 check_items k (i ∷ is) s =
     and_then (check s k (effect_of i) (length (bytes_of i))) (check_items k is (state_after s k (effect_of i) (length (bytes_of i))))

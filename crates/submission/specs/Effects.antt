@@ -1,6 +1,6 @@
 -- Internal. What an item of a submitted buffer does (01, "Handing in"): told by the item alone, apart from the state it meets.
 -- Assumes nothing.
-use Rattle.std.specs.Prelude.{ℕ, ◌-◌, ◌≤◌, ◌<◌, ◌≡◌, List, ◌∷◌, cond, eqb, length, take, drop}
+use Rattle.std.specs.Prelude.{ℕ, ◌-◌, ◌≤◌, ◌<◌, ◌≡◌, List, ◌∷◌, cond, eqb, length, take, drop, Option, Some, None}
 use Rattle.operation.specs.Format.{head_length}
 use Rattle.operation.specs.declared.Operation.{Operation}
 use Rattle.operation.specs.declared.Operation.TheVariants.{FormatError, CanTransmit, FdTransmit, XlTransmit, Confirm, ArbitrationLost, BusError, Configuration, Status, Wakeup}
@@ -11,8 +11,6 @@ use Rattle.bus_state.specs.Memory.{bytes_per_slot}
 use Rattle.submission.specs.declared.Effect.{Effect}
 use Rattle.submission.specs.declared.Effect.TheVariants.{Nothing, Transmit, Answer, SetRate, SetBehaviour, SetStatus, Wake}
 use Rattle.submission.specs.declared.Step.{Step}
-use Rattle.submission.specs.declared.Next.{Next}
-use Rattle.submission.specs.declared.Next.TheVariants.{End, At}
 
 -- a Configuration of kind 4 sets the behaviour, of kinds 1 to 3 a baud rate
 abbrev pub configuration_effect : ℕ → ℕ → Effect
@@ -59,6 +57,6 @@ pub record Taken (s : List ℕ) (at : ℕ) (r : Step) : Type 0 where
   pub within : r.end ≤ length s
 
 -- what stands at a position of a buffer: nothing at its end, and a step before
-abbrev pub NextIs : List ℕ → ℕ → Next → Type 0
-NextIs s at End = length s ≤ at
-NextIs s at (At r) = Taken s at r
+abbrev pub NextIs : List ℕ → ℕ → Option Step → Type 0
+NextIs s at None = length s ≤ at
+NextIs s at (Some r) = Taken s at r

@@ -1,3 +1,4 @@
 pub mod Effects
 pub mod Counting
 pub mod Carrying
+pub mod Checked

@@ -2,7 +2,7 @@
 // touched no lent byte. This is for the bus crate above: what is required its caller must meet.
 #![tactic(auto)]
 
-ghost use Rattle.std.specs.Prelude.{◌≡◌, true, List, [], ◌+◌, ◌*◌, ◌≤◌, ◌<◌, length, Ok};
+ghost use Rattle.std.specs.Prelude.{◌≡◌, true, List, [], ◌+◌, ◌*◌, ◌≤◌, ◌<◌, length, Ok, IfOk, IfErr};
 ghost use Rattle.operation.specs.Rules.{legal};
 ghost use Rattle.operation.specs.Format.{length_of, encode};
 ghost use Rattle.buffers.specs.Parts.{over};
@@ -11,17 +11,18 @@ ghost use Rattle.slots.specs.Blocks.{set_block, block_at};
 ghost use Rattle.slots.specs.declared.Slot.{Slot};
 ghost use Rattle.plain_bus.specs.Submit.{format_error};
 ghost use Rattle.plain_bus.specs.Calls.{max_submit};
-ghost use Rattle.bus_state.specs.Memory.{held, node_state, slot_count, slots_per_node, bytes_per_slot, bytes_per_queue, payload_bytes, queue_bytes};
+ghost use Rattle.bus_state.specs.Memory.{held, node_state, slot_count, slots_per_node, bytes_per_slot, bytes_per_queue};
 ghost use Rattle.bus_state.specs.Entries.{with_entry};
 ghost use Rattle.bus_model.specs.Calls.{submitted};
 ghost use Rattle.outcome.specs.Ended.{ended_by, ended};
 ghost use Rattle.submission.specs.Effects.{configuration_effect, operation_effect, fault_effect, SmallRate, NextIs};
+ghost use Rattle.submission.specs.Checked.{refusal_of, Passed, Refused};
 ghost use Rattle.submission.specs.Counting.{unreached, fill_woken, entry_woken, wakeup_room, woken_by, is_wakeup, answer_length, status_set, entry_check, entry_after, check_items};
 ghost use Rattle.submission.specs.Carrying.{memory_after_all, queue_with, wakeup_laid, wakeups_laid, first_slot};
 
-use bus_state::{NodeState, State};
+use bus_state::{NodeState, PAYLOAD_BYTES, QUEUE_BYTES, State};
 use decoder::{Cursor, Reading};
-use operation::Operation;
+use operation::{ConfigurationKind, NodeStatus, Operation};
 use outcome::{Change, Done, Refusal};
 use slots::Slot;
 
@@ -44,19 +45,22 @@ struct Step {
     end: usize,
 }
 
-// What stands at a position of a buffer: a step, or its end.
-#[derive(Clone, Copy)]
-enum Next {
-    End,
-    At(Step),
-}
-
-// Whether a step can be done, or its refusal.
-#[derive(Clone, Copy)]
-enum Verdict {
-    Goes,
+// What a step lacks that can't be done: a place for one more pending frame, or room in a queue.
+#[derive(Clone, Copy, Debug, PartialEq, Eq)]
+enum Lack {
     FourPending,
     QueueFull,
+}
+
+impl From<Lack> for Refusal {
+    ghost from_gives = { λ lack r. r ≡ refusal_of lack };
+
+    fn from(lack: Lack) -> Refusal {
+        match lack {
+            Lack::FourPending => Refusal::FourPending,
+            Lack::QueueFull => Refusal::QueueFull,
+        }
+    }
 }
 
 // The most bytes of a buffer.
@@ -68,48 +72,25 @@ fn configuration_effect(kind: u8, value: u32) -> Effect
     requires { legal (Operation.Configuration kind value) ≡ true }
     ensures { result ≡ configuration_effect kind value }
 {
-    if kind == operation::ARBITRATION_LOST_BEHAVIOR {
+    if kind == ConfigurationKind::ArbitrationLostBehavior as u8 {
         return Effect::SetBehaviour(value as u8);
     }
     Effect::SetRate(kind - 1, value)
 }
 
+#[tactic(auto, unfolding(crate::specs::Effects::operation_effect))]
 fn operation_effect(op: Operation) -> Effect
     requires { legal op ≡ true }
     ensures { result ≡ operation_effect op }
 {
     match op {
-        Operation::FormatError { n: _ } => Effect::Nothing,
-        Operation::CanTransmit {
-            id: _,
-            ide: _,
-            rtr: _,
-            dl: _,
-        } => Effect::Transmit(op),
-        Operation::FdTransmit {
-            id: _,
-            ide: _,
-            brs: _,
-            esi: _,
-            dl: _,
-        } => Effect::Transmit(op),
-        Operation::XlTransmit {
-            id: _,
-            ide: _,
-            sec: _,
-            sdt: _,
-            vcid: _,
-            af: _,
-            dl: _,
-        } => Effect::Transmit(op),
-        Operation::Confirm { id: _ } => Effect::Answer,
-        Operation::ArbitrationLost { id: _ } => Effect::Answer,
-        Operation::BusError {
-            id: _,
-            error_code: _,
-            error_flag: _,
-            is_sender: _,
-        } => Effect::Answer,
+        Operation::FormatError { .. } => Effect::Nothing,
+        Operation::CanTransmit { .. }
+        | Operation::FdTransmit { .. }
+        | Operation::XlTransmit { .. } => Effect::Transmit(op),
+        Operation::Confirm { .. }
+        | Operation::ArbitrationLost { .. }
+        | Operation::BusError { .. } => Effect::Answer,
         Operation::Configuration { kind, value } => configuration_effect(kind, value),
         Operation::Status { status } => Effect::SetStatus(status),
         Operation::Wakeup => Effect::Wake,
@@ -117,6 +98,7 @@ fn operation_effect(op: Operation) -> Effect
 }
 
 // A faulty operation of at least four bytes whose code is that of Format Error has no effect.
+#[tactic(auto, unfolding(crate::specs::Effects::fault_effect))]
 fn fault_effect(bytes: &[u8]) -> Effect
     ensures { result ≡ fault_effect bytes.now }
 {
@@ -126,44 +108,43 @@ fn fault_effect(bytes: &[u8]) -> Effect
     Effect::Answer
 }
 
-// The step at a position of a buffer.
-fn step_at(buffer: &[u8], at: usize) -> Next
+// The step at a position of a buffer; at its end there is none.
+fn step_at(buffer: &[u8], at: usize) -> Option<Step>
     ensures { NextIs buffer.now at result }
 {
     let cursor = Cursor { at };
     match cursor.read(buffer) {
-        Reading::AtEnd => Next::End,
+        Reading::AtEnd => None,
         Reading::Faulty { number: _, next } => {
             let end = next.at;
             let effect = fault_effect(&buffer[at..end]);
-            let step = Step { effect, end };
-            Next::At(step)
+            Some(Step { effect, end })
         }
         Reading::Read { op, next } => {
             let effect = operation_effect(op);
             let end = next.at;
-            let step = Step { effect, end };
-            Next::At(step)
+            Some(Step { effect, end })
         }
     }
 }
 
 // ---- Wakeups of node k, on the entries of all nodes
 
-// They do not go to node j, of this status.
-fn is_unreached(status: u8, k: usize, j: usize) -> bool
-    ensures { result ≡ unreached status k j }
+// They do not go to node j, of this entry.
+fn is_unreached(d: NodeState, k: usize, j: usize) -> bool
+    ensures { result ≡ unreached d.status k j }
 {
-    (j == k) | (status == operation::BUS_OFF)
+    (j == k) | bus_state::is_off(d)
 }
 
 // The fill of node j's queue with u of them.
+#[tactic(auto, unfolding(crate::specs::Counting::wakeup_length))]
 fn fill_woken(d: NodeState, k: usize, u: usize, j: usize) -> usize
     requires { u ≤ bytes_per_queue }
     ensures { result ≡ fill_woken d k u j }
 {
     let fill = d.fill as usize;
-    if is_unreached(d.status, k, j) {
+    if is_unreached(d, k, j) {
         return fill;
     }
     fill + u * operation::WAKEUP_LENGTH
@@ -174,15 +155,12 @@ fn wakeups_have_room(s: State, k: usize, u: usize) -> bool
     requires { (s.count ≤ 8) × (u ≤ bytes_per_queue) }
     ensures { result ≡ wakeup_room s.nodes k u 0 s.count }
 {
-    let count = s.count as usize;
     let nodes = s.nodes;
-    let mut j: usize = 0;
-    while j < count {
+    for j in 0..s.count as usize {
         let d = nodes[j];
         if bus_state::BYTES_PER_QUEUE < fill_woken(d, k, u, j) {
             return false;
         }
-        j += 1;
     }
     true
 }
@@ -199,75 +177,61 @@ fn woken(s: State, k: usize, u: usize) -> State
     requires { (s.count ≤ 8) × (u ≤ bytes_per_queue) × (wakeup_room s.nodes k u 0 s.count ≡ true) }
     ensures { result ≡ woken_by s k u }
 {
-    let count = s.count as usize;
     let mut nodes = s.nodes;
-    let mut j: usize = 0;
-    while j < count {
+    for j in 0..s.count as usize {
         let d = nodes[j];
         nodes[j] = entry_woken(d, k, u, j);
-        j += 1;
     }
-    State {
-        count: s.count,
-        round: s.round,
-        nodes,
-    }
+    State { nodes, ..s }
 }
 
 // ---- a step, on the sender's entry
 
 // A Wakeup goes to the other nodes; from a Bus-Off node it has no effect.
+#[tactic(auto, unfolding(crate::specs::Counting::is_wakeup))]
 fn is_wakeup(d: NodeState, effect: Effect) -> bool
     ensures { result ≡ is_wakeup d effect }
 {
     match effect {
-        Effect::Nothing => false,
-        Effect::Transmit(_) => false,
-        Effect::Answer => false,
-        Effect::SetRate(_, _) => false,
-        Effect::SetBehaviour(_) => false,
-        Effect::SetStatus(_) => false,
-        Effect::Wake => d.status != operation::BUS_OFF,
+        Effect::Wake => !bus_state::is_off(d),
+        _ => false,
     }
 }
 
 // Whether the entry lets a step of so many bytes be done.
 #[tactic(auto, unfolding(crate::specs::Counting::entry_check))]
-fn entry_check(d: NodeState, effect: Effect, size: usize) -> Verdict
+fn entry_check(d: NodeState, effect: Effect, size: usize) -> Result<(), Lack>
     requires { size ≤ max_submit }
     ensures { result ≡ entry_check d effect size }
 {
     match effect {
-        Effect::Nothing => Verdict::Goes,
         Effect::Transmit(_) => {
-            if d.status == operation::BUS_OFF {
-                return Verdict::Goes;
+            if bus_state::is_off(d) {
+                return Ok(());
             }
             if bus_state::MAX_PENDING <= d.pending {
-                return Verdict::FourPending;
+                return Err(Lack::FourPending);
             }
-            Verdict::Goes
+            Ok(())
         }
         Effect::Answer => {
             if d.fill as usize + (operation::FORMAT_ERROR_HEAD + size)
                 <= bus_state::BYTES_PER_QUEUE
             {
-                return Verdict::Goes;
+                return Ok(());
             }
-            Verdict::QueueFull
+            Err(Lack::QueueFull)
         }
-        Effect::SetRate(_, _) => Verdict::Goes,
-        Effect::SetBehaviour(_) => Verdict::Goes,
-        Effect::SetStatus(_) => Verdict::Goes,
-        Effect::Wake => Verdict::Goes,
+        _ => Ok(()),
     }
 }
 
 // Status Bus-Off removes all the node's pending frames and empties its queue.
+#[tactic(auto, unfolding(crate::specs::Counting::status_set))]
 fn status_set(d: NodeState, status: u8) -> NodeState
     ensures { result ≡ status_set d status }
 {
-    if status == operation::BUS_OFF {
+    if status == NodeStatus::BusOff as u8 {
         let cleared = bus_state::with_fill(bus_state::with_pending(d, 0), 0);
         return bus_state::with_status(cleared, status);
     }
@@ -275,14 +239,14 @@ fn status_set(d: NodeState, status: u8) -> NodeState
 }
 
 // The entry after a step that can be done.
+#[tactic(auto, unfolding(crate::specs::Counting::entry_after))]
 fn entry_after(d: NodeState, effect: Effect, size: usize) -> NodeState
-    requires { (size ≤ max_submit) × (entry_check d effect size ≡ Verdict.Goes) × SmallRate effect }
+    requires { (size ≤ max_submit) × (entry_check d effect size ≡ Ok tt) × SmallRate effect }
     ensures { result ≡ entry_after d effect size }
 {
     match effect {
-        Effect::Nothing => d,
         Effect::Transmit(_) => {
-            if d.status == operation::BUS_OFF {
+            if bus_state::is_off(d) {
                 return d;
             }
             bus_state::with_pending(d, d.pending + 1)
@@ -294,13 +258,13 @@ fn entry_after(d: NodeState, effect: Effect, size: usize) -> NodeState
         Effect::SetRate(i, rate) => bus_state::with_rate(d, i as usize, rate),
         Effect::SetBehaviour(behaviour) => bus_state::with_behaviour(d, behaviour),
         Effect::SetStatus(status) => status_set(d, status),
-        Effect::Wake => d,
+        Effect::Nothing | Effect::Wake => d,
     }
 }
 
 // Whether a buffer is taken: the first step that can't be done decides. Every step but a Wakeup is about the sender's entry alone, so
 // the state stays as it was, beside the entry and the number of Wakeups so far.
-fn check_buffer(s: State, k: usize, entry: NodeState, buffer: &[u8]) -> Verdict
+fn check_buffer(s: State, k: usize, entry: NodeState, buffer: &[u8]) -> Result<(), Lack>
     requires k_bound { (k < 8) × (s.count ≤ 8) × (length buffer.now ≤ max_submit) }
     requires value { (entry ≡ node_state s k) × (entry.fill ≤ bytes_per_queue) }
     ensures { result ≡ check_items k (items_of buffer.now) s }
@@ -308,38 +272,21 @@ fn check_buffer(s: State, k: usize, entry: NodeState, buffer: &[u8]) -> Verdict
     let mut d = entry;
     let mut wakeups: usize = 0;
     let mut at: usize = 0;
-    loop {
-        match step_at(buffer, at) {
-            Next::End => {
-                return Verdict::Goes;
+    while let Some(step) = step_at(buffer, at) {
+        let effect = step.effect;
+        let size = step.end - at;
+        if is_wakeup(d, effect) {
+            if !wakeups_have_room(s, k, wakeups + 1) {
+                return Err(Lack::QueueFull);
             }
-            Next::At(step) => {
-                let effect = step.effect;
-                let size = step.end - at;
-                if is_wakeup(d, effect) {
-                    if wakeups_have_room(s, k, wakeups + 1) {
-                        wakeups += 1;
-                        at = step.end;
-                    } else {
-                        return Verdict::QueueFull;
-                    }
-                } else {
-                    match entry_check(d, effect, size) {
-                        Verdict::FourPending => {
-                            return Verdict::FourPending;
-                        }
-                        Verdict::QueueFull => {
-                            return Verdict::QueueFull;
-                        }
-                        Verdict::Goes => {
-                            d = entry_after(d, effect, size);
-                            at = step.end;
-                        }
-                    }
-                }
-            }
+            wakeups += 1;
+        } else {
+            entry_check(d, effect, size)?;
+            d = entry_after(d, effect, size);
         }
+        at = step.end;
     }
+    Ok(())
 }
 
 // ---- carrying it out
@@ -361,8 +308,8 @@ fn lay_format_error(queues: &mut [u8], at: usize, bytes: &[u8])
 }
 
 // Lays the data of node k's next frame into the bytes of the slot after its last.
-fn lay_data(d: NodeState, k: usize, bytes: &[u8], payload: &mut [u8])
-    requires { (k < 8) × (d.pending < slots_per_node) × (length payload.old ≡ payload_bytes) × (length bytes.now ≤ bytes_per_slot) }
+fn lay_data(d: NodeState, k: usize, bytes: &[u8], payload: &mut [u8; PAYLOAD_BYTES])
+    requires { (k < 8) × (d.pending < slots_per_node) × (length bytes.now ≤ bytes_per_slot) }
     ensures { payload.new ≡ over payload.old (bytes_per_slot * (slots_per_node * k + d.pending)) bytes.now }
 {
     let q = d.pending as usize;
@@ -374,8 +321,8 @@ fn lay_data(d: NodeState, k: usize, bytes: &[u8], payload: &mut [u8])
 }
 
 // Answers some bytes of node k with a Format Error behind the fill of its queue.
-fn answer(d: NodeState, k: usize, bytes: &[u8], queues: &mut [u8])
-    requires { (k < 8) × (d.fill + answer_length (length bytes.now) ≤ bytes_per_queue) × (length queues.old ≡ queue_bytes) }
+fn answer(d: NodeState, k: usize, bytes: &[u8], queues: &mut [u8; QUEUE_BYTES])
+    requires { (k < 8) × (d.fill + answer_length (length bytes.now) ≤ bytes_per_queue) }
     ensures { queues.new ≡ queue_with d k queues.old (format_error bytes.now) }
 {
     lay_format_error(
@@ -386,12 +333,11 @@ fn answer(d: NodeState, k: usize, bytes: &[u8], queues: &mut [u8])
 }
 
 // Puts one more Wakeup of node k, behind u of them, into the queue of node j.
-fn wake_at(d: NodeState, k: usize, u: usize, j: usize, queues: &mut [u8])
-    requires j_bound { (j < 8) × (u < bytes_per_queue) × (fill_woken d k (u + 1) j ≤ bytes_per_queue) }
-    requires queues_len { length queues.old ≡ queue_bytes }
+fn wake_at(d: NodeState, k: usize, u: usize, j: usize, queues: &mut [u8; QUEUE_BYTES])
+    requires { (j < 8) × (u < bytes_per_queue) × (fill_woken d k (u + 1) j ≤ bytes_per_queue) }
     ensures { queues.new ≡ wakeup_laid d k u j queues.old }
 {
-    if is_unreached(d.status, k, j) {
+    if is_unreached(d, k, j) {
         return;
     }
     lay_wakeup(
@@ -401,18 +347,14 @@ fn wake_at(d: NodeState, k: usize, u: usize, j: usize, queues: &mut [u8])
 }
 
 // Puts one more Wakeup of node k, behind u of them, into the queue of every other node that is not Bus-Off.
-fn wake(s: State, k: usize, u: usize, queues: &mut [u8])
-    requires count_bound { (s.count ≤ 8) × (u < bytes_per_queue) × (wakeup_room s.nodes k (u + 1) 0 s.count ≡ true) }
-    requires queues_len { length queues.old ≡ queue_bytes }
+fn wake(s: State, k: usize, u: usize, queues: &mut [u8; QUEUE_BYTES])
+    requires { (s.count ≤ 8) × (u < bytes_per_queue) × (wakeup_room s.nodes k (u + 1) 0 s.count ≡ true) }
     ensures { queues.new ≡ wakeups_laid s.nodes k u 0 s.count queues.old }
 {
-    let count = s.count as usize;
     let nodes = s.nodes;
-    let mut j: usize = 0;
-    while j < count {
+    for j in 0..s.count as usize {
         let d = nodes[j];
         wake_at(d, k, u, j, queues);
-        j += 1;
     }
 }
 
@@ -436,13 +378,12 @@ fn carry_buffer(
     entry: NodeState,
     buffer: &[u8],
     four: [Slot; 4],
-    payload: &mut [u8],
-    queues: &mut [u8],
+    payload: &mut [u8; PAYLOAD_BYTES],
+    queues: &mut [u8; QUEUE_BYTES],
 ) -> Change
     requires k_bound { (k < 8) × (s.count ≤ 8) × (length buffer.now ≤ max_submit) }
     requires value { (entry ≡ node_state s k) × (entry.fill ≤ bytes_per_queue) }
-    requires payload_len { (length payload.old ≡ payload_bytes) × (length queues.old ≡ queue_bytes) }
-    requires s_value { check_items k (items_of buffer.now) s ≡ Verdict.Goes }
+    requires s_value { check_items k (items_of buffer.now) s ≡ Ok tt }
     ensures outcome { (result.outcome ≡ Ok Done.Accepted) × (result.at ≡ start) }
     ensures memory { (slots : List Slot) → held result.state (set_block slots (slots_per_node * k) result.block) payload.new queues.new ≡ memory_after_all k (items_of buffer.now) (held s (set_block slots (slots_per_node * k) four) payload.old queues.old) }
 {
@@ -453,64 +394,59 @@ fn carry_buffer(
     let mut d = entry;
     let mut wakeups: usize = 0;
     let mut at: usize = 0;
-    loop {
-        match step_at(buffer, at) {
-            Next::End => {
-                return Change {
-                    outcome: Ok(Done::Accepted),
-                    state: state_left(s, k, wakeups, d),
-                    at: start,
-                    block: [first, second, third, fourth],
-                };
-            }
-            Next::At(step) => {
-                let effect = step.effect;
-                let end = step.end;
-                let after = entry_after(d, effect, end - at);
-                match effect {
-                    Effect::Nothing => {}
-                    Effect::Transmit(op) => {
-                        if d.status != operation::BUS_OFF {
-                            lay_data(d, k, decoder::data(buffer, op, Cursor { at: end }), payload);
-                            let slot = slots::slot_of(op, k as u8, s.round);
-                            let q = d.pending;
-                            match q {
-                                0 => {
-                                    first = slot;
-                                }
-                                1 => {
-                                    second = slot;
-                                }
-                                2 => {
-                                    third = slot;
-                                }
-                                _ => {
-                                    fourth = slot;
-                                }
-                            }
+    while let Some(step) = step_at(buffer, at) {
+        let effect = step.effect;
+        let end = step.end;
+        let after = entry_after(d, effect, end - at);
+        match effect {
+            Effect::Transmit(op) => {
+                if !bus_state::is_off(d) {
+                    lay_data(d, k, decoder::data(buffer, op, Cursor { at: end }), payload);
+                    let slot = slots::slot_of(op, k as u8, s.round);
+                    let q = d.pending;
+                    match q {
+                        0 => {
+                            first = slot;
                         }
-                    }
-                    Effect::Answer => {
-                        answer(d, k, &buffer[at..end], queues);
-                    }
-                    Effect::SetRate(_, _) => {}
-                    Effect::SetBehaviour(_) => {}
-                    Effect::SetStatus(_) => {}
-                    Effect::Wake => {
-                        if d.status != operation::BUS_OFF {
-                            wake(s, k, wakeups, queues);
-                            wakeups += 1;
+                        1 => {
+                            second = slot;
+                        }
+                        2 => {
+                            third = slot;
+                        }
+                        _ => {
+                            fourth = slot;
                         }
                     }
                 }
-                d = after;
-                at = end;
             }
+            Effect::Answer => {
+                answer(d, k, &buffer[at..end], queues);
+            }
+            Effect::Wake => {
+                if !bus_state::is_off(d) {
+                    wake(s, k, wakeups, queues);
+                    wakeups += 1;
+                }
+            }
+            Effect::Nothing
+            | Effect::SetRate(..)
+            | Effect::SetBehaviour(_)
+            | Effect::SetStatus(_) => {}
         }
+        d = after;
+        at = end;
+    }
+    Change {
+        outcome: Ok(Done::Accepted),
+        state: state_left(s, k, wakeups, d),
+        at: start,
+        block: [first, second, third, fourth],
     }
 }
 
 // The first of a node's four slots, for the caller that holds all: of a number past the last node it is slot 0.
+#[tactic(auto, unfolding(crate::specs::Carrying::first_slot))]
 pub fn first_slot(node: u32) -> usize
     ensures { (result ≡ first_slot node) × (result + slots_per_node ≤ slot_count) }
 {
@@ -520,54 +456,42 @@ pub fn first_slot(node: u32) -> usize
     0
 }
 
-// Submits a buffer of a node: NotAttached, BufferTooLong, then the refusal of the first step that can't be done; else all steps are
-// carried out. Of the slots it has the node's four alone: whatever the others are, they stay.
+// The sender's entry, where nothing refuses its buffer: NotAttached, BufferTooLong, then what the first step lacks that can't be done.
+fn checked(s: State, node: u32, buffer: &[u8]) -> Result<NodeState, Refusal>
+    requires { (s.count ≤ 8) × (node < s.count → (node_state s node).fill ≤ bytes_per_queue) }
+    ensures passed { IfOk result (Passed s node buffer.now) }
+    ensures refused { IfErr result (Refused s node buffer.now) }
+{
+    if s.count <= node {
+        return Err(Refusal::NotAttached);
+    }
+    if LONGEST_BUFFER < buffer.len() {
+        return Err(Refusal::BufferTooLong);
+    }
+    let k = node as usize;
+    let d = bus_state::entry(s, k);
+    check_buffer(s, k, d, buffer)?;
+    Ok(d)
+}
+
+// Submits a buffer of a node: a refusal leaves all as it was, else all steps are carried out. Of the slots it has the node's four alone:
+// whatever the others are, they stay.
 pub fn submit(
     s: State,
     four: [Slot; 4],
-    payload: &mut [u8],
-    queues: &mut [u8],
+    payload: &mut [u8; PAYLOAD_BYTES],
+    queues: &mut [u8; QUEUE_BYTES],
     node: u32,
     buffer: &[u8],
 ) -> Change
-    requires count_bound { (s.count ≤ 8) × (node < s.count → (node_state s node).fill ≤ bytes_per_queue) }
-    requires payload_len { (length payload.old ≡ payload_bytes) × (length queues.old ≡ queue_bytes) }
+    requires { (s.count ≤ 8) × (node < s.count → (node_state s node).fill ≤ bytes_per_queue) }
     ensures ended { (a : List Slot) → block_at a result.at ≡ four → ended_by result a payload.new queues.new ≡ ended (submitted (held s a payload.old queues.old) node buffer.now) }
     ensures place { result.at ≡ first_slot node }
     ensures inside { result.at + slots_per_node ≤ slot_count }
 {
     let at = first_slot(node);
-    if s.count <= node {
-        return Change {
-            outcome: Err(Refusal::NotAttached),
-            state: s,
-            at,
-            block: four,
-        };
-    }
-    if LONGEST_BUFFER < buffer.len() {
-        return Change {
-            outcome: Err(Refusal::BufferTooLong),
-            state: s,
-            at,
-            block: four,
-        };
-    }
-    let k = node as usize;
-    let d = bus_state::entry(s, k);
-    match check_buffer(s, k, d, buffer) {
-        Verdict::FourPending => Change {
-            outcome: Err(Refusal::FourPending),
-            state: s,
-            at,
-            block: four,
-        },
-        Verdict::QueueFull => Change {
-            outcome: Err(Refusal::QueueFull),
-            state: s,
-            at,
-            block: four,
-        },
-        Verdict::Goes => carry_buffer(s, at, k, d, buffer, four, payload, queues),
+    match checked(s, node, buffer) {
+        Ok(d) => carry_buffer(s, at, node as usize, d, buffer, four, payload, queues),
+        Err(refusal) => Change::refused(refusal, s, at, four),
     }
 }

@@ -14,7 +14,9 @@ use Rattle.bus.proofs.round.Goals as goal
 pub returns-in-Err : goal.returns-in-Err
 unfolding round_in
 returns-in-Err c =
-    let g = c.args in record {
+    let g = c.args in
+    rw c.refused.ensures
+    (record {
       ended = λ a h.
           let m = held g.s a g.payload.now g.queues.now in
           block-kept-ends _ g.s a _ g.payload.now g.queues.now (sym h.block ∙ ap (block_at a) (sym
@@ -23,7 +25,17 @@ returns-in-Err c =
           g.detector))
           _ (sym c.test_lent.ensures ∙ c.in-Err.is));
       inside = c.winner_block-at.ensures.1;
-    }
+    })
+
+pub unwrap-payload-requires : goal.unwrap-payload-requires
+unwrap-payload-requires c =
+    let v = past_tests (counted c.requires.1.scan) c.args.payload.now c.args.queues.now (sym c.test_lent.ensures ∙ c.in_default.is) in
+    c.as_mut_array.ensures.variant.1 v.payload
+
+pub unwrap-queues-requires : goal.unwrap-queues-requires
+unwrap-queues-requires c =
+    let v = past_tests (counted c.requires.1.scan) c.args.payload.now c.args.queues.now (sym c.test_lent.ensures ∙ c.in_default.is) in
+    c.as_mut_array-2.ensures.variant.1 v.queues
 
 pub winner_of-best-requires : goal.winner_of-best-requires
 winner_of-best-requires c =
@@ -34,20 +46,23 @@ winner_of-best-requires c =
 
 pub round-requires : goal.round-requires
 round-requires c =
-    let p = c.args.payload.now in
-    let q = c.args.queues.now in
-    let v = past_tests (counted c.requires.1.scan) p q (sym c.test_lent.ensures ∙ c.in_default.is) in
-    record { drawn = (c.requires.0, drawn c.requires.1 v.keyed c.winner_of-best.ensures); payload_len = (v.payload, v.queues) }
+    let v = past_tests (counted c.requires.1.scan) c.args.payload.now c.args.queues.now (sym c.test_lent.ensures ∙ c.in_default.is) in
+    let p = (rw c.unwrap-payload.ensures at c.as_mut_array.ensures.cases).same in
+    let q = (rw c.unwrap-queues.ensures at c.as_mut_array-2.ensures.cases).same in
+    record { drawn = (c.requires.0, drawn c.requires.1 v.keyed c.winner_of-best.ensures); payload_len = rw (p, q) (v.payload, v.queues) }
 
 pub returns : goal.returns
 unfolding round_in
 returns c =
-    let g = c.args in record {
+    let g = c.args in
+    let p = (rw c.unwrap-payload.ensures at c.as_mut_array.ensures.cases).same in
+    let q = (rw c.unwrap-queues.ensures at c.as_mut_array-2.ensures.cases).same in
+    record {
       ended = λ a h.
           let m = held g.s a g.payload.now g.queues.now in
           let v = past_tests (counted h.scan) g.payload.now g.queues.now (sym c.test_lent.ensures ∙ c.in_default.is) in
           c.round.ensures.queues_after a (drawn h v.keyed c.winner_of-best.ensures)
-          ∙ rw c.injection_of-e.ensures (sym (ap ended (passed m (rounded m (injection_from g.injected g.code g.detector))
+          ∙ rw (c.injection_of-e.ensures, p, q) (sym (ap ended (passed m (rounded m (injection_from g.injected g.code g.detector))
           v.lent_well_lem
           v.valid)));
       inside = c.round.ensures.slots_per_node_bound;

@@ -12,31 +12,39 @@ use Rattle.bus.proofs.submit.Goals as goal
 pub returns-in-Err : goal.returns-in-Err
 unfolding submit_in
 returns-in-Err c =
-    let g = c.args in record {
+    let g = c.args in
+    rw c.refused.ensures
+    (record {
       ended = λ a h b.
           let m = held g.s a g.payload.now g.queues.now in
           block-kept-ends _ g.s a _ g.payload.now g.queues.now (sym b ∙ ap (block_at a) (sym c.first_slot-at.ensures.0))
           ∙ sym (refused-ends (counted h) g.payload.now g.queues.now (submitted m g.node g.buffer.now) _
           (sym c.test_lent.ensures ∙ c.in-Err.is));
       inside = c.first_slot-at.ensures.1;
-    }
+    })
+
+pub unwrap-payload-requires : goal.unwrap-payload-requires
+unwrap-payload-requires c =
+    let v = past_tests (counted c.requires.1) c.args.payload.now c.args.queues.now (sym c.test_lent.ensures ∙ c.in_default.is) in
+    c.as_mut_array.ensures.variant.1 v.payload
+
+pub unwrap-queues-requires : goal.unwrap-queues-requires
+unwrap-queues-requires c =
+    let v = past_tests (counted c.requires.1) c.args.payload.now c.args.queues.now (sym c.test_lent.ensures ∙ c.in_default.is) in
+    c.as_mut_array-2.ensures.variant.1 v.queues
 
 pub submit-requires : goal.submit-requires
 submit-requires c =
-    let p = c.args.payload.now in
-    let q = c.args.queues.now in
-    let m = held c.args.s c.requires.0 p q in
-    let v = past_tests (counted c.requires.1) p q (sym c.test_lent.ensures ∙ c.in_default.is) in
-    record { count_bound = ((valid-count _ _ v.valid).1, λ h. (valid_node_at _ _ v.valid c.args.node h).entry.fill); payload_len = (v.payload, v.queues) }
+    let v = past_tests (counted c.requires.1) c.args.payload.now c.args.queues.now (sym c.test_lent.ensures ∙ c.in_default.is) in
+    ((valid-count _ _ v.valid).1, λ h. (valid_node_at _ _ v.valid c.args.node h).entry.fill)
 
-pub returns : goal.returns
+pub returns-clause-ended : goal.returns-clause-ended
 unfolding submit_in
-returns c =
-    let g = c.args in record {
-      ended = λ a h b.
-          let m = held g.s a g.payload.now g.queues.now in
-          let v = past_tests (counted h) g.payload.now g.queues.now (sym c.test_lent.ensures ∙ c.in_default.is) in
-          c.submit.ensures.ended a (ap (block_at a) c.submit.ensures.place ∙ b)
-          ∙ sym (ap ended (passed m (submitted m g.node g.buffer.now) v.lent_well_lem v.valid));
-      inside = c.submit.ensures.inside;
-    }
+returns-clause-ended c = λ a h b.
+    let g = c.args in
+    let m = held g.s a g.payload.now g.queues.now in
+    let v = past_tests (counted h) g.payload.now g.queues.now (sym c.test_lent.ensures ∙ c.in_default.is) in
+    let p = (rw c.unwrap-payload.ensures at c.as_mut_array.ensures.cases).same in
+    let q = (rw c.unwrap-queues.ensures at c.as_mut_array-2.ensures.cases).same in
+    c.submit.ensures.ended a (ap (block_at a) c.submit.ensures.place ∙ b)
+    ∙ rw (p, q) (sym (ap ended (passed m (submitted m g.node g.buffer.now) v.lent_well_lem v.valid)))

@@ -1,6 +1,6 @@
 use Prim.Native.Nat.{◌-◌, ◌+◌}
 use Rattle.submission.proofs.Wakes.{room-here, laid_step, laid_end}
-use mathlib.Core.Path.{◌≡◌, refl, sym, ◌∙◌}
+use mathlib.Core.Path.{◌≡◌, sym, ◌∙◌}
 use native.Mathlib.Numerals.{add-one}
 use native.Mathlib.Omega.{arith}
 use Rattle.submission.proofs.wake.Goals as goal
@@ -9,36 +9,25 @@ pub loop-j-init : goal.loop-j-init
 loop-j-init c =
     let count = c.args.s.count in
     let all : count - 0 ≡ count = omega arith in
-    (omega arith, omega arith, rw all c.requires.count_bound.2, rw all, refl)
-
-pub bounds-nodes-j : goal.bounds-nodes-j
-bounds-nodes-j c = omega arith
+    record { room = rw all c.requires.2; given = rw all }
 
 pub wake_at-requires : goal.wake_at-requires
 wake_at-requires c =
     let l = c.loop-j in
     let a = c.args in
-    record {
-      j_bound = (omega arith, omega arith, (room-here a.s.nodes a.k (a.u + 1) l.j a.s.count (omega arith) l.invariant.2).0);
-      queues_len = l.invariant.4 ∙ c.requires.queues_len;
-    }
+    (omega arith, omega arith, (room-here a.s.nodes a.k (a.u + 1) l.j a.s.count (omega arith) l.invariant.room).0)
 
 pub loop-j-preserved : goal.loop-j-preserved
 loop-j-preserved c =
     let l = c.loop-j in
-    let a = c.args in (
-      omega arith,
-      omega arith,
-      rw (add-one l.j) (room-here a.s.nodes a.k (a.u + 1) l.j a.s.count (omega arith) l.invariant.2).1,
-      rw (add-one l.j, c.wake_at.ensures) (sym (laid_step a.s.nodes a.k a.u l.j a.s.count _ (omega arith)) ∙ l.invariant.3),
-      omega arith,
-    )
-
-pub shape_of-queues : goal.shape_of-queues
-shape_of-queues c = c.loop-j.invariant.4
+    let a = c.args in
+    record {
+      room = rw (add-one l.j) (room-here a.s.nodes a.k (a.u + 1) l.j a.s.count (omega arith) l.invariant.room).1;
+      given = rw (add-one l.j, c.wake_at.ensures) (sym (laid_step a.s.nodes a.k a.u l.j a.s.count _ (omega arith)) ∙ l.invariant.given);
+    }
 
 pub returns : goal.returns
 returns c =
     let l = c.loop-j in
     let a = c.args in
-    sym (laid_end a.s.nodes a.k a.u l.j a.s.count _ (omega arith)) ∙ l.invariant.3
+    sym (laid_end a.s.nodes a.k a.u l.j a.s.count _ (omega arith)) ∙ l.invariant.given

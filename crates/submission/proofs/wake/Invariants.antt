@@ -1,19 +1,13 @@
 -- The loop's invariant: the nodes from j on, from the present queues, give what all give from the first.
-use Prim.Native.Nat.{◌≤◌, ◌-◌, ◌+◌}
+use Prim.Native.Nat.{◌-◌, ◌+◌}
 use Rattle.submission.specs.Carrying.{wakeups_laid}
 use Rattle.submission.specs.Counting.{wakeup_room}
-use lib.ListN.{length}
 use mathlib.Core.Bool.{true}
 use mathlib.Core.Path.{◌≡◌}
 use Rattle.submission.proofs.wake.Given as goal
 
 abbrev pub invariant-loop-j : goal.invariant-loop-j
-invariant-loop-j l =
-    (l.j ≤ l.count)
-    × (l.count ≤ 8)
-    × (wakeup_room l.nodes l.k (l.u + 1) l.j (l.count - l.j) ≡ true)
-    × (wakeups_laid l.nodes l.k l.u l.j (l.count - l.j) l.queues ≡ wakeups_laid l.nodes l.k l.u 0 l.count l.initial.queues)
-    × (length l.queues ≡ length l.initial.queues)
-
-abbrev pub decreases-loop-j : goal.decreases-loop-j
-decreases-loop-j l = l.count - l.j
+invariant-loop-j l = record {
+  room : wakeup_room l.nodes l.k (l.u + 1) l.j (l.j-end - l.j) ≡ true;
+  given : wakeups_laid l.nodes l.k l.u l.j (l.j-end - l.j) l.queues ≡ wakeups_laid l.nodes l.k l.u 0 l.j-end l.initial.queues;
+}

@@ -9,28 +9,22 @@ pub loop-j-init : goal.loop-j-init
 loop-j-init c =
     let count = c.args.s.count in
     let all : count - 0 ≡ count = omega arith in
-    (omega arith, omega arith, rw all)
-
-pub bounds-nodes-j : goal.bounds-nodes-j
-bounds-nodes-j c = omega arith
+    rw all
 
 pub returns-then-fill_woken-gt-BYTES_PER_QUEUE : goal.returns-then-fill_woken-gt-BYTES_PER_QUEUE
 returns-then-fill_woken-gt-BYTES_PER_QUEUE c =
     let l = c.loop-j in
     let a = c.args in
-    sym (room_bad a.s.nodes a.k a.u l.j a.s.count (omega arith) (rw (← c.fill_woken.ensures) c.if-fill_woken-gt-BYTES_PER_QUEUE.true)) ∙ l.invariant.2
+    sym (room_bad a.s.nodes a.k a.u l.j a.s.count (omega arith) (rw (← c.fill_woken.ensures) c.if-fill_woken-gt-BYTES_PER_QUEUE.true)) ∙ l.invariant
 
 pub loop-j-preserved : goal.loop-j-preserved
 loop-j-preserved c =
     let l = c.loop-j in
-    let a = c.args in (
-      omega arith,
-      omega arith,
-      rw (add-one l.j) (sym (room-good a.s.nodes a.k a.u l.j a.s.count (omega arith) (rw (← c.fill_woken.ensures) c.if-fill_woken-gt-BYTES_PER_QUEUE.false)) ∙ l.invariant.2),
-    )
+    let a = c.args in
+    rw (add-one l.j) (sym (room-good a.s.nodes a.k a.u l.j a.s.count (omega arith) (rw (← c.fill_woken.ensures) c.if-fill_woken-gt-BYTES_PER_QUEUE.false)) ∙ l.invariant)
 
 pub returns : goal.returns
 returns c =
     let l = c.loop-j in
     let a = c.args in
-    sym (room-end a.s.nodes a.k a.u l.j a.s.count (omega arith)) ∙ l.invariant.2
+    sym (room-end a.s.nodes a.k a.u l.j a.s.count (omega arith)) ∙ l.invariant

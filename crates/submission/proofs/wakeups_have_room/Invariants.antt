@@ -1,11 +1,8 @@
 -- The loop's invariant: the queues from j on decide as all do.
-use Prim.Native.Nat.{◌≤◌, ◌-◌}
+use Prim.Native.Nat.{◌-◌}
 use Rattle.submission.specs.Counting.{wakeup_room}
 use mathlib.Core.Path.{◌≡◌}
 use Rattle.submission.proofs.wakeups_have_room.Given as goal
 
 abbrev pub invariant-loop-j : goal.invariant-loop-j
-invariant-loop-j l = (l.j ≤ l.count) × (l.count ≤ 8) × (wakeup_room l.nodes l.k l.u l.j (l.count - l.j) ≡ wakeup_room l.nodes l.k l.u 0 l.count)
-
-abbrev pub decreases-loop-j : goal.decreases-loop-j
-decreases-loop-j l = l.count - l.j
+invariant-loop-j l = wakeup_room l.nodes l.k l.u l.j (l.j-end - l.j) ≡ wakeup_room l.nodes l.k l.u 0 l.j-end

@@ -11,33 +11,26 @@ loop-j-init c =
     let count = c.args.s.count in
     let all : count - 0 ≡ count = omega arith in
     let n : length c.args.s.nodes ≡ 8 = c.well_formed.0.1.1.1.1.0.1.0.1 in
-    (omega arith, omega arith, n, rw all c.requires.2, rw all)
-
-pub bounds-nodes-j : goal.bounds-nodes-j
-bounds-nodes-j c = omega arith
+    record { size = n; room = rw all c.requires.2; given = rw all }
 
 pub entry_woken-requires : goal.entry_woken-requires
 entry_woken-requires c =
     let l = c.loop-j in
     let a = c.args in
-    (omega arith, (room-here l.nodes a.k a.u l.j a.s.count (omega arith) l.invariant.3).0)
-
-pub bounds-nodes-j-in-loop-j : goal.bounds-nodes-j-in-loop-j
-bounds-nodes-j-in-loop-j c = omega arith
+    (omega arith, (room-here l.nodes a.k a.u l.j a.s.count (omega arith) l.invariant.room).0)
 
 pub loop-j-preserved : goal.loop-j-preserved
 loop-j-preserved c =
     let l = c.loop-j in
-    let a = c.args in (
-      omega arith,
-      omega arith,
-      rw length-set l.invariant.2,
-      rw (add-one l.j) (room-past l.nodes a.k a.u l.j a.s.count _ (omega arith) l.invariant.3),
-      rw (add-one l.j, c.entry_woken.ensures) (sym (woken_step l.nodes a.k a.u l.j a.s.count (omega arith)) ∙ l.invariant.4),
-    )
+    let a = c.args in
+    record {
+      size = rw length-set l.invariant.size;
+      room = rw (add-one l.j) (room-past l.nodes a.k a.u l.j a.s.count _ (omega arith) l.invariant.room);
+      given = rw (add-one l.j, c.entry_woken.ensures) (sym (woken_step l.nodes a.k a.u l.j a.s.count (omega arith)) ∙ l.invariant.given);
+    }
 
 pub returns : goal.returns
 returns c =
     let l = c.loop-j in
     let a = c.args in
-    rw (sym (woken_end l.nodes a.k a.u l.j a.s.count (omega arith)) ∙ l.invariant.4)
+    rw (sym (woken_end l.nodes a.k a.u l.j a.s.count (omega arith)) ∙ l.invariant.given)

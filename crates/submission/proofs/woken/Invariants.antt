@@ -1,5 +1,5 @@
 -- The loop's invariant: the nodes from j on, from the present entries, give what all give from the first.
-use Prim.Native.Nat.{◌≤◌, ◌-◌}
+use Prim.Native.Nat.{◌-◌}
 use Rattle.submission.specs.Counting.{wakeup_room, woken_from}
 use lib.ListN.{length}
 use mathlib.Core.Bool.{true}
@@ -7,12 +7,8 @@ use mathlib.Core.Path.{◌≡◌}
 use Rattle.submission.proofs.woken.Given as goal
 
 abbrev pub invariant-loop-j : goal.invariant-loop-j
-invariant-loop-j l =
-    (l.j ≤ l.count)
-    × (l.count ≤ 8)
-    × (length l.nodes ≡ 8)
-    × (wakeup_room l.nodes l.k l.u l.j (l.count - l.j) ≡ true)
-    × (woken_from l.nodes l.k l.u l.j (l.count - l.j) ≡ woken_from l.initial.nodes l.k l.u 0 l.count)
-
-abbrev pub decreases-loop-j : goal.decreases-loop-j
-decreases-loop-j l = l.count - l.j
+invariant-loop-j l = record {
+  size : length l.nodes ≡ 8;
+  room : wakeup_room l.nodes l.k l.u l.j (l.j-end - l.j) ≡ true;
+  given : woken_from l.nodes l.k l.u l.j (l.j-end - l.j) ≡ woken_from l.initial.nodes l.k l.u 0 l.j-end;
+}
