@@ -392,20 +392,10 @@ fn arbitrate(
         error: e,
     };
     if !news.has_room(s) {
-        return Change {
-            outcome: Err(Refusal::QueueFull),
-            state: s,
-            at,
-            block: four,
-        };
+        return Change::refused(Refusal::QueueFull, s, at, four);
     }
     if LAST_ROUND <= s.round {
-        return Change {
-            outcome: Err(Refusal::RoundsUsedUp),
-            state: s,
-            at,
-            block: four,
-        };
+        return Change::refused(Refusal::RoundsUsedUp, s, at, four);
     }
     let state = news.tell_all(s, position, &ids, queues);
     let outcome = Done::Carried {
@@ -444,12 +434,7 @@ pub fn round(
 {
     let at = first_slot(best);
     if is_wrong(s, e) {
-        return Change {
-            outcome: Err(Refusal::BadInjection),
-            state: s,
-            at,
-            block: four,
-        };
+        return Change::refused(Refusal::BadInjection, s, at, four);
     }
     let Some(won) = best else {
         return Change {

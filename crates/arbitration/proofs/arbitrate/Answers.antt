@@ -84,12 +84,13 @@ returns-then-not-has_room c =
     let eight : length a.s.nodes ≡ 8 = search rules in
     let lent : (length a.payload.now ≡ 65_536) × (length a.queues.now ≡ 32_768) = search rules in
     let q = rw x at (sym c.has_room.ensures ∙ c.if-not-has_room.true) in
-    record {
+    rw c.refused.ensures
+    (record {
       queues_after =
           λ l d. block-kept-ends (Err QueueFull) a.s l (4 * a.won.owner) a.payload.now a.queues.now d.block
           ∙ full-ended a.s l a.payload.now a.queues.now a.e a.won a.four a.ids eight lent d q;
       at_value = refl;
-    }
+    })
 
 pub returns-then-s-ge-LAST_ROUND : goal.returns-then-s-ge-LAST_ROUND
 returns-then-s-ge-LAST_ROUND c =
@@ -99,13 +100,14 @@ returns-then-s-ge-LAST_ROUND c =
     let eight : length a.s.nodes ≡ 8 = search rules in
     let lent : (length a.payload.now ≡ 65_536) × (length a.queues.now ≡ 32_768) = search rules in
     let q = rw x at (sym c.has_room.ensures ∙ c.if-not-has_room.false) in
-    record {
+    rw c.refused-then-s-ge-LAST_ROUND.ensures
+    (record {
       queues_after =
           λ l d. block-kept-ends (Err RoundsUsedUp) a.s l (4 * a.won.owner) a.payload.now a.queues.now d.block
           ∙ used_up_ended a.s l a.payload.now a.queues.now a.e a.won a.four a.ids eight lent d q
           c.if-s-ge-LAST_ROUND.true;
       at_value = refl;
-    }
+    })
 
 pub tell_all-state-requires-clause-tellable : goal.tell_all-state-requires-clause-tellable
 tell_all-state-requires-clause-tellable c =

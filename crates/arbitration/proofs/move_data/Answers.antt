@@ -22,9 +22,8 @@ loop-q-preserved c =
     let w = (c.requires.frames (l.q + 1) (omega arith) (omega arith)).short in
     let n : c.data_length-n.result ≡ data_length (held_at a.four (l.q + 1)) = c.data_length-n.ensures ∙ ap data_length c.held_in.ensures
     in
-
-          rw (c.shift.ensures, n, add-one (a.at + l.q), add-one l.q)
-          (sym (data_next a.four a.at l.q a.last l.payload (omega arith)) ∙ l.invariant)
+    rw (c.shift.ensures, n, add-one (a.at + l.q), add-one l.q)
+    (sym (data_next a.four a.at l.q a.last l.payload (omega arith)) ∙ l.invariant)
 
 pub returns : goal.returns
 returns c =
