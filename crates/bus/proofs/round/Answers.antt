@@ -47,7 +47,7 @@ winner_of-best-requires c =
 pub round-requires : goal.round-requires
 round-requires c =
     let v = past_tests (counted c.requires.1.scan) c.args.payload.now c.args.queues.now (sym c.test_lent.ensures ∙ c.in_default.is) in
-    (c.requires.0, drawn c.requires.1 v.keyed c.winner_of-best.ensures)
+    record { drawn = (c.requires.0, drawn c.requires.1 v.keyed c.winner_of-best.ensures) }
 
 pub returns : goal.returns
 unfolding round_in
