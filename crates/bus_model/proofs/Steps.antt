@@ -16,7 +16,7 @@ use Rattle.operation.specs.declared.Operation.{Operation}
 use Rattle.operation.specs.declared.Operation.TheVariants.{FormatError, CanTransmit, FdTransmit, XlTransmit, Confirm, ArbitrationLost, BusError, Configuration, Status, Wakeup}
 use Rattle.decoder.specs.Stream.{Item, operation, fault, bytes_of}
 use Rattle.decoder.specs.Front.{decode}
-use Rattle.decoder.specs.declared.Front.TheVariants.{Found}
+use Rattle.std.proofs.Common.{Ok}
 use Rattle.decoder.proofs.Found.{found}
 use Rattle.decoder.proofs.Decoded.{decoded}
 use Rattle.slots.specs.Blocks.{slot_of}
@@ -62,13 +62,13 @@ record Parts (op : Operation) (bytes : List ℕ) : Type 0 where
 parts : (op : Operation) (bytes : List ℕ) → Bytes bytes → ReadsWhole op bytes → Parts op bytes
 parts op bytes u e =
     let f = found e in
-    let d : decode bytes ≡ Found op (length bytes) = rw (take-length bytes) at f.decoded in
-    let b = decoded bytes u f.stated op (length bytes) d in
+    let d : decode bytes ≡ Ok op = rw (take-length bytes) at f.decoded in
+    let b = decoded bytes u f.stated op d in
     record {
       typed = b.typed;
       lawful = f.lawful;
       same = b.same;
-      size = length-drop (head_length op) bytes ∙ omega (arith, f.sized);
+      size = length-drop (head_length op) bytes ∙ omega (arith, f.exact);
     }
 
 typed-slot : (op : Operation) (owner accepted : ℕ) → TypedOperation op → TypedSlot (slot_of op owner accepted)

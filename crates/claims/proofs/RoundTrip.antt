@@ -18,21 +18,20 @@ use Rattle.operation.specs.Rules.{legal}
 use Rattle.operation.specs.declared.Operation.{Operation}
 use Rattle.operation.proofs.Sizes.{encode-length}
 use Rattle.operation.proofs.Tests.{both}
-use Rattle.decoder.specs.Front.{Shape, none, holds, shape_of, kind_of, too_short, kind_outside, length_not_of_table, stated_length, front, decode, judge, verdict}
-use Rattle.decoder.specs.Reading.{cursor_at, placed, read_at, data_at}
+use Rattle.std.proofs.Common.{Option, None, Some, Result, Ok, Err}
+use Rattle.decoder.specs.Front.{front}
+use Rattle.decoder.specs.Reading.{ending, placed, read_at, data_at}
+use Rattle.decoder.specs.declared.Fault.{Fault}
+use Rattle.decoder.specs.declared.Fault.TheVariants as faults
 use Rattle.decoder.specs.declared.Front.{Front}
-use Rattle.decoder.specs.declared.Front.TheVariants.{End, Fault, Found}
 use Rattle.decoder.specs.declared.Reading.{Reading}
-use Rattle.decoder.specs.declared.Reading.TheVariants as reading
-use Rattle.decoder.specs.declared.Reading.TheVariants.{AtEnd, Faulty}
-use Rattle.std.specs.Prelude.{Ok, Err}
 use Rattle.encoder.specs.Writing.{Written, written_number, decision, write_outcome, buffer_written, written_of}
 use Rattle.encoder.proofs.Answers.{accepted}
 use Rattle.encoder.specs.declared.WriteError.TheVariants.{RuleBroken, BufferTooSmall}
 use Rattle.codec.specs.Claims.{ReadsAs, WritesAs, after}
 use Rattle.codec.proofs.Claims.{written-reads, read_writes, reads_through}
 use Rattle.kettlefrost.specs.Flat.{flat, named}
-use Rattle.kettlefrost.specs.Calls.{read_answer, part_of, data_answer, write_answer, buffer_after_write, length_written}
+use Rattle.kettlefrost.specs.Calls.{item_answer, read_answer, part_of, data_answer, write_answer, buffer_after_write, length_written}
 use Rattle.kettlefrost.specs.declared.FlatOperation.{FlatOperation}
 use Rattle.kettlefrost.specs.declared.ReadAnswer.{ReadAnswer}
 use Rattle.kettlefrost.specs.declared.WriteAnswer.{WriteAnswer}
@@ -70,7 +69,7 @@ data_part s op end = part_in_lem s (data_at s op end) end (go (leb (length_of op
     go false e = refl
 
 -- what is read, by the operation
-module _ (s : List ℕ) (at : ℕ) (op : Operation) (next : ℕ) (e : read_at s at ≡ reading.Read op (cursor_at next)) where
+module _ (s : List ℕ) (at : ℕ) (op : Operation) (next : ℕ) (e : read_at s at ≡ Some (ending (Ok op) next)) where
   read_as : read_in s at ≡ record { end = 0; fault = 0; next = next; operation = flat op }
   read_as = ap (read_answer at) e
 
@@ -115,44 +114,20 @@ written_back f payload buffer t h before rest = go (named f) refl h
 
 -- ---- what is read writes back
 
--- a fault's number is not 0
-abbrev Numbered : Front → Type 0
-Numbered End = Unit {0}
-Numbered (Fault number n) = 0 < number
-Numbered (Found op n) = Unit {0}
-
-either : (b : Bool) (x y : Front) → Numbered x → Numbered y → Numbered (cond b x y)
-either true x y p q = p
-either false x y p q = q
-
-judge-numbered : (n : ℕ) (h : Shape) → Numbered (judge n h)
-unfolding judge verdict
-judge-numbered n none = omega arith
-judge-numbered n (holds least op) =
-    either (too_short n least || kind_outside op || length_not_of_table n op) (Fault 4 n) (cond (legal op) (Found op n) (Fault 5 n))
-    (omega arith)
-    (either (legal op) (Found op n) (Fault 5 n) tt (omega arith))
-
-front-numbered : (s : List ℕ) → Numbered (front s)
-unfolding front decode
-front-numbered s =
-    let n = length s in
-    let k = stated_length s in
-    let t = take k s in
-    let d = judge (length t) (shape_of (kind_of (number_at 4 t 0)) t) in
-    let c = cond (ltb n k) (Fault 2 n) d in
-    let b = cond (ltb k 8) (Fault 2 n) c in
-    either (eqb n 0) End (cond (ltb n 8) (Fault 1 n) b) tt
-    (either (ltb n 8) (Fault 1 n) b (omega arith)
-    (either (ltb k 8) (Fault 2 n) c (omega arith)
-    (either (ltb n k) (Fault 2 n) d (omega arith) (judge-numbered (length t) (shape_of (kind_of (number_at 4 t 0)) t)))))
-
--- the operation of a reading with neither end nor fault
-placed-read : (at : ℕ) (f : Front) → Numbered f → (read_answer at (placed at f)).end ≡ 0 → (read_answer at (placed at f)).fault ≡ 0
-    → (op : Operation) × (next : ℕ) × (placed at f ≡ reading.Read op (cursor_at next))
-placed-read at End p e z = absurd (omega (arith, e))
-placed-read at (Fault number n) p e z = absurd (omega (arith, p, z))
-placed-read at (Found op n) p e z = (op, at + n, refl)
+-- the operation of a reading with neither end nor fault: a fault's number is not 0
+placed-read : (at : ℕ) (f : Option Front) → (read_answer at (placed at f)).end ≡ 0 → (read_answer at (placed at f)).fault ≡ 0
+    → (op : Operation) × (next : ℕ) × (placed at f ≡ Some (ending (Ok op) next))
+placed-read at None e z = absurd (omega (arith, e))
+placed-read at (Some f) e z = by_item f.item (at + f.size) z
+  where
+    by_item : (i : Result Operation Fault) (end : ℕ) → (item_answer i end).fault ≡ 0
+        → (op : Operation) × (next : ℕ) × (Some (ending i end) ≡ Some (ending (Ok op) next))
+    by_item (Ok op) end z = (op, end, refl)
+    by_item (Err faults.TooFewLeft) end z = absurd (omega (arith, z))
+    by_item (Err faults.BadLength) end z = absurd (omega (arith, z))
+    by_item (Err faults.UnknownCode) end z = absurd (omega (arith, z))
+    by_item (Err faults.WrongLength) end z = absurd (omega (arith, z))
+    by_item (Err faults.RuleBroken) end z = absurd (omega (arith, z))
 
 read_back : (s : List ℕ) (at : ℕ) → Bytes s
     → let r = read_in s at in
@@ -160,10 +135,10 @@ read_back : (s : List ℕ) (at : ℕ) → Bytes s
     → WritesBack r.operation (data_in s r) buffer (take (r.next - at) (drop at s)) (r.next - at)
 unfolding read_at
 read_back s at u e z buffer room =
-    let r = placed-read at (front (drop at s)) (front-numbered (drop at s)) e z in
+    let r = placed-read at (front (drop at s)) e z in
     back r.0 r.1 r.2
   where
-    back : (op : Operation) (next : ℕ) → read_at s at ≡ reading.Read op (cursor_at next)
+    back : (op : Operation) (next : ℕ) → read_at s at ≡ Some (ending (Ok op) next)
         → WritesBack (read_in s at).operation (data_in s (read_in s at)) buffer (take ((read_in s at).next - at) (drop at s))
         ((read_in s at).next - at)
     back op next q =
@@ -188,17 +163,20 @@ read_back s at u e z buffer room =
 -- ---- what is demanded of kf_read
 
 -- a reading goes on where the record says
-next-after : (at : ℕ) (x : Reading) → (read_answer at x).next ≡ after at x
-next-after at AtEnd = refl
-next-after at (Faulty number next) = refl
-next-after at (reading.Read op next) = refl
+next-after : (at : ℕ) (x : Option Reading) → (read_answer at x).next ≡ after at x
+next-after at None = refl
+next-after at (Some r) = onward r.item r.next.at
+  where
+    onward : (i : Result Operation Fault) (next : ℕ) → (item_answer i next).next ≡ next
+    onward (Ok op) next = refl
+    onward (Err f) next = refl
 
 read_is : (s : List ℕ) (at : ℕ) → Bytes s → Read s at (read_in s at)
 read_is s at u =
     let t = reads_through s in
     record {
       answer = refl;
-      ends = λ h. ap (λ (x : Reading). (read_answer at x).end) (t.end at h);
+      ends = λ h. ap (λ (x : Option Reading). (read_answer at x).end) (t.end at h);
       forward = λ h. rw (next-after at (read_at s at)) (t.forward at h);
       back = read_back s at u;
     }

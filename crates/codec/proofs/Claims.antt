@@ -14,10 +14,10 @@ use Rattle.operation.specs.declared.Operation.{Operation}
 use Rattle.operation.specs.declared.Operation.TheVariants.{FormatError, CanTransmit, FdTransmit, XlTransmit, Confirm, ArbitrationLost, BusError, Configuration, Status, Wakeup}
 use Rattle.operation.proofs.Numbers.{take-bytes, drop-bytes}
 use Rattle.operation.proofs.Sizes.{header-length, encode-length}
-use Rattle.decoder.specs.Front.{front, taken}
+use Rattle.std.proofs.Common.{Option, None, Some, Ok}
+use Rattle.decoder.specs.Front.{sized, front, taken}
 use Rattle.decoder.specs.Reading.{placed, read_at, data_at}
 use Rattle.decoder.specs.declared.Front.{Front}
-use Rattle.decoder.specs.declared.Front.TheVariants.{End, Fault, Found}
 use Rattle.decoder.proofs.Decoded.{Back, decoded}
 use Rattle.decoder.proofs.Encoded.{encoded}
 use Rattle.decoder.proofs.Forward.{forward}
@@ -26,7 +26,6 @@ use Rattle.decoder.proofs.Payload.{data_found}
 use Rattle.decoder.proofs.Streams.{front-nil, items-joined}
 use Rattle.decoder.proofs.Items.{next-item}
 use Rattle.encoder.specs.Writing.{write_outcome}
-use Rattle.std.specs.Prelude.{Ok}
 use Rattle.encoder.proofs.Answers.{accepted, accepts, written-bytes}
 use Rattle.codec.specs.Claims.{ReadsAs, WrittenReads, WritesAs, ReadWrites, after, ReadsThrough}
 
@@ -44,7 +43,7 @@ unfolding read_at
 reads_as op payload before rest ty l w s =
     let t = encode op payload in
     let here : drop (length before) (before ++ (encode op payload ++ rest)) ≡ encode op payload ++ rest = drop-append_seam before (t ++ rest) in
-    let f : front (drop (length before) (before ++ (encode op payload ++ rest))) ≡ Found op (length_of op) =
+    let f : front (drop (length before) (before ++ (encode op payload ++ rest))) ≡ Some (sized (Ok op) (length_of op)) =
     ap front here ∙ encoded op payload rest ty l w s in
     let size : length (encode op payload) ≡ length_of op = encode-length op payload ∙ ap (λ (k : ℕ). head_length op + k) w in
     record {
@@ -77,22 +76,22 @@ data_typed (Status status) ty = omega arith
 data_typed Wakeup ty = omega arith
 
 -- an operation that was found writes back to its bytes
-writes_as : (s : List ℕ) (at : ℕ) (op : Operation) (n : ℕ) → Bytes s → front (drop at s) ≡ Found op n
+writes_as : (s : List ℕ) (at : ℕ) (op : Operation) (n : ℕ) → Bytes s → front (drop at s) ≡ Some (sized (Ok op) n)
     → TypedOperation op × ((buffer : List ℕ) → n ≤ length buffer → WritesAs op (data_at s op (at + n)) buffer (take n (drop at s)) n)
 writes_as s at op n u e =
     let f = found e in
     let t = take n (drop at s) in
     let size : length (take n (drop at s)) ≡ n = length-take-le n (drop at s) f.within in
     let b : Back (take n (drop at s)) (take-bytes n (drop at s) (drop-bytes at s u)) op =
-    decoded t (take-bytes n (drop at s) (drop-bytes at s u)) (stated-own (drop at s) f ∙ sym size) op n f.decoded in
+    decoded t (take-bytes n (drop at s) (drop-bytes at s u)) (stated-own (drop at s) f ∙ sym size) op f.decoded in
     let d : data_at s op (at + n) ≡ drop (head_length op) (take n (drop at s)) = data_found s at op n e in
     let whole : length (data_at s op (at + n)) ≡ data_length op =
-    ap length d ∙ length-drop (head_length op) t ∙ omega (arith, f.sized) in (
+    ap length d ∙ length-drop (head_length op) t ∙ omega (arith, f.exact) in (
       b.typed,
       λ buffer room.
           let answer : write_outcome op (length (data_at s op (at + n))) (length buffer) ≡ Ok n =
-          accepts op (length (data_at s op (at + n))) (length buffer) f.lawful whole (omega (arith, data_typed op b.typed)) (omega (arith, f.sized))
-          ∙ ap Ok (sym f.sized) in
+          accepts op (length (data_at s op (at + n))) (length buffer) f.lawful whole (omega (arith, data_typed op b.typed)) (omega (arith, f.exact))
+          ∙ ap Ok (sym f.exact) in
           record {
             answer = answer;
             same = written-bytes op (data_at s op (at + n)) buffer answer ∙ ap (encode op) d ∙ b.same;
@@ -107,10 +106,9 @@ read_writes s at next op u e =
 
 -- ---- theorem 3
 
-goes_on_lem : (at : ℕ) (f : Front) → after at (placed at f) ≡ at + taken f
-goes_on_lem at End = omega arith
-goes_on_lem at (Fault number n) = refl
-goes_on_lem at (Found op n) = refl
+goes_on_lem : (at : ℕ) (f : Option Front) → after at (placed at f) ≡ at + taken f
+goes_on_lem at None = omega arith
+goes_on_lem at (Some f) = refl
 
 pub reads_through : (s : List ℕ) → ReadsThrough s
 unfolding read_at

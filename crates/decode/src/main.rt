@@ -4,8 +4,6 @@
 mod failure;
 mod report;
 
-ghost use Rattle.std.specs.Prelude.{◌≤◌, ◌<◌, length};
-
 use decoder::{Cursor, Reading};
 use failure::Failure;
 use std::env::{Env, FillError};
@@ -22,30 +20,16 @@ const BUFFER_LENGTH: usize = 65537;
 // Room for any path.
 const PATH_LENGTH: usize = 4096;
 
-// Prints what stands at a position, and gives the position behind it.
-fn print_next(out: Stdout, s: &[u8], at: usize) -> usize
-    requires { at < length s.now }
-    ensures { (at < result) × (result ≤ length s.now) }
-{
-    let cursor = Cursor { at };
-    match cursor.read(s) {
-        Reading::AtEnd => s.len(),
-        Reading::Faulty { number, next } => {
-            let end = next.at;
-            report::fault(report::begin(out, at), number, &s[at..end]);
-            end
-        }
-        Reading::Read { op, next } => {
-            report::operation(report::begin(out, at), op, decoder::data(s, op, next));
-            next.at
-        }
-    }
-}
-
+// Prints all that stands in a stream, from its start to its end.
 fn print_all(out: Stdout, s: &[u8]) {
-    let mut at = 0;
-    while at < s.len() {
-        at = print_next(out, s, at);
+    let mut cursor = Cursor { at: 0 };
+    while let Some(Reading { item, next }) = cursor.read(s) {
+        let line = report::begin(out, cursor.at);
+        match item {
+            Ok(op) => report::operation(line, op, decoder::data(s, op, next)),
+            Err(fault) => report::fault(line, fault, &s[cursor.at..next.at]),
+        }
+        cursor = next;
     }
 }
 

@@ -1,5 +1,6 @@
 // A line for each operation and each fault: position, kind, then the fields by their names.
 // IDs, SDT, VCID, AF and data are in hexadecimal, all other numbers in decimal.
+use decoder::Fault;
 use lines::Line;
 use operation::{
     ConfigurationKind, ErrorCode, ErrorFlag, LostBehavior, NodeStatus, NotInTable, Operation,
@@ -164,24 +165,23 @@ pub(crate) fn operation(line: Line, op: Operation, data: &[u8]) {
 }
 
 // What a fault is, in a few words.
-fn words(number: u8) -> &'static str {
-    match number {
-        1 => "fewer than 8 bytes remain",
-        2 => "length below 8 or past end",
-        3 => "unknown code",
-        4 => "length not that of its kind",
-        5 => "content rule broken",
-        _ => "",
+fn words(fault: Fault) -> &'static str {
+    match fault {
+        Fault::TooFewLeft => "fewer than 8 bytes remain",
+        Fault::BadLength => "length below 8 or past end",
+        Fault::UnknownCode => "unknown code",
+        Fault::WrongLength => "length not that of its kind",
+        Fault::RuleBroken => "content rule broken",
     }
 }
 
 // The fault, with its bytes.
-pub(crate) fn fault(line: Line, number: u8, bytes: &[u8]) {
+pub(crate) fn fault(line: Line, fault: Fault, bytes: &[u8]) {
     line.text("fault ")
-        .decimal(number.into(), 1)
+        .decimal(fault.number().into(), 1)
         .column(FIELDS_COLUMN)
         .text("  ")
-        .text(words(number))
+        .text(words(fault))
         .column(FAULT_END)
         .bytes(bytes)
         .end();

@@ -17,7 +17,7 @@ use Rattle.operation.specs.declared.Operation.{Operation}
 use Rattle.operation.specs.declared.Operation.TheVariants.{FormatError}
 use Rattle.operation.proofs.Numbers.{number-here, number_small, byte_small, drop-bytes}
 use Rattle.decoder.specs.Front.{Kind, format_error, can, fd, xl, confirm, arbitration_lost, bus_error, configuration, status, wakeup, unknown, kind_of, holds, shape_of, decode}
-use Rattle.decoder.specs.declared.Front.TheVariants.{Found}
+use Rattle.std.proofs.Common.{Ok}
 use Rattle.decoder.proofs.Found.{judged}
 
 -- ---- the code of a kind
@@ -169,9 +169,9 @@ module _ (t : List ℕ) (u : Bytes t) where
     by_kind unknown least op c q h s = let z : ◌≡◌ {A = ℕ} 0 1 = cc in absurd (omega arith)
 
     -- the bytes of an operation that was found are its bytes
-    pub decoded : (op : Operation) (n : ℕ) → decode t ≡ Found op n → Back op
+    pub decoded : (op : Operation) → decode t ≡ Ok op → Back op
     unfolding decode
-    decoded op n e =
+    decoded op e =
         let k = kind_of (number_at 4 t 0) in
-        let j = judged (length t) (shape_of k t) op n e in
-        by_kind k j.least op (code_of_kind (number_at 4 t 0) k refl) j.shape j.enough j.sized
+        let j = judged (length t) (shape_of k t) op e in
+        by_kind k j.least op (code_of_kind (number_at 4 t 0) k refl) j.shape j.enough j.exact

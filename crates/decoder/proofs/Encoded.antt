@@ -19,8 +19,8 @@ use Rattle.operation.specs.declared.Operation.TheVariants.{FormatError, CanTrans
 use Rattle.operation.proofs.Numbers.{number-back, number_prefix}
 use Rattle.operation.proofs.Sizes.{encode-length, head_least, head_small}
 use Rattle.operation.proofs.Tests.{false_is_true, passed}
-use Rattle.decoder.specs.Front.{holds, kind_of, shape_of, kind_outside, verdict, judge, decode, stated_length, front}
-use Rattle.decoder.specs.declared.Front.TheVariants.{Found}
+use Rattle.std.proofs.Common.{Some, Ok}
+use Rattle.decoder.specs.Front.{holds, kind_of, shape_of, kind_outside, verdict, judge, decode, stated_length, sized, front}
 use Rattle.decoder.proofs.Found.{front_is}
 
 -- an operation that meets its rules has no kind outside 1 to 4
@@ -40,7 +40,7 @@ kind_inside Wakeup l = refl
 -- once for every kind: where the fields of an operation are read back from its bytes, it is found at their front
 found_by : (op : Operation) (payload rest : List ℕ) (least : ℕ) → legal op ≡ true → length payload ≡ data_length op → data_length op < 65536
     → code_of op < 4294967296 → shape_of (kind_of (code_of op)) (encode op payload) ≡ holds least op → least ≤ length_of op
-    → front (encode op payload ++ rest) ≡ Found op (length_of op)
+    → front (encode op payload ++ rest) ≡ Some (sized (Ok op) (length_of op))
 unfolding header encode decode judge verdict
 found_by op payload rest least l p small c h enough =
     let t = encode op payload in
@@ -51,7 +51,7 @@ found_by op payload rest least l p small c h enough =
     number_prefix 4 4 t rest (omega arith) ∙ number-back 4 n (omega (arith, head_small op)) in
     let code : number_at 4 (encode op payload) 0 ≡ code_of op = number-back 4 (code_of op) c in
     front_is (t ++ rest) n whole (rw length-append (omega arith)) stated
-    ∙ ap decode (take_at t rest n size)
+    ∙ ap (λ (l : List ℕ). Some (sized (decode l) n)) (take_at t rest n size)
     ∙ rw (code, h, size, le-ltb n least enough, kind_inside op l, eq-eqb n n refl, l)
 
 -- a behaviour is 1 or 2
@@ -76,7 +76,7 @@ configuration-least true = lit≤ tt
 configuration-least false = lit≤ tt
 
 pub encoded : (op : Operation) (payload rest : List ℕ) → TypedOperation op → legal op ≡ true → length payload ≡ data_length op → data_length op < 65536
-    → front (encode op payload ++ rest) ≡ Found op (length_of op)
+    → front (encode op payload ++ rest) ≡ Some (sized (Ok op) (length_of op))
 unfolding header encode shape_of legal rules
 encoded (FormatError n) payload rest ty l p s =
     found_by (FormatError n) payload rest 10 l p s (lit< tt) (ap (λ (x : ℕ). holds 10 (FormatError x)) (number-back 2 n s)) (omega arith)

@@ -3,56 +3,35 @@
 use mathlib.Core.Path.{◌≡◌, refl}
 use mathlib.Core.Bool.{Bool, true, false, cond}
 use mathlib.Core.List.{List}
-use Prim.Native.Nat.{ℕ, ◌≤◌, ◌<◌}
+use Prim.Native.Nat.{ℕ, ◌≤◌}
 use native.Mathlib.Omega.{arith}
 use lib.Dec.{ltb, eqb}
 use lib.ListN.{length, take}
 use borrow.Author.Tests.{eqb-true, ltb-false}
-use Rattle.decoder.specs.Front.{decode, stated_length, whole_length, front}
-use Rattle.decoder.specs.declared.Front.TheVariants.{End, Fault}
+use Rattle.std.proofs.Common.{Option, None, Some, Err}
+use Rattle.decoder.specs.Front.{decode, stated_length, whole_length, sized, front}
+use Rattle.decoder.specs.declared.Fault.TheVariants.{TooFewLeft, BadLength}
+use Rattle.decoder.specs.declared.Front.{Front}
 
-module _ (s : List ℕ) where
-  abbrev n : ℕ
-  n = stated_length s
+-- an operation that is all there lies within, and is decoded; otherwise there is the end, or fault 1 or 2
+abbrev pub ByWhole : List ℕ → Option ℕ → Type 0
+ByWhole s None =
+    front s
+    ≡ cond (eqb (length s) 0) None
+    (cond (ltb (length s) 8) (Some (sized (Err TooFewLeft) (length s))) (Some (sized (Err BadLength) (length s))))
+ByWhole s (Some n) = (n ≤ length s) × (front s ≡ Some (sized (decode (take n s)) n))
 
-  -- it lies within
-  pub whole-within : whole_length s ≤ length s
-  unfolding whole_length
-  whole-within = go (ltb (length s) 8) (ltb n 8) (ltb (length s) n) refl
-    where
-      go : (a b c : Bool) → ltb (length s) n ≡ c → cond a 0 (cond b 0 (cond c 0 n)) ≤ length s
-      go true b c q = omega arith
-      go false true c q = omega arith
-      go false false true q = omega arith
-      go false false false q = ltb-false (length s) n q
+pub by_whole : (s : List ℕ) {w : Option ℕ} → whole_length s ≡ w → ByWhole s w
+unfolding whole_length front
+by_whole s e = rw e at (go (eqb (length s) 0) refl (ltb (length s) 8) refl (ltb n 8) refl (ltb (length s) n) refl)
+  where
+    n : ℕ
+    n = stated_length s
 
-  -- an operation that is all there is decoded
-  pub front-whole : 0 < whole_length s → front s ≡ decode (take (whole_length s) s)
-  unfolding whole_length front
-  front-whole = go (eqb (length s) 0) (ltb (length s) 8) (ltb n 8) (ltb (length s) n) refl refl
-    where
-      go : (e a b c : Bool) → eqb (length s) 0 ≡ e → ltb (length s) 8 ≡ a → 0 < cond a 0 (cond b 0 (cond c 0 n))
-          → cond e End
-          (cond a (Fault 1 (length s)) (cond b (Fault 2 (length s)) (cond c (Fault 2 (length s)) (decode (take n s)))))
-          ≡ decode (take (cond a 0 (cond b 0 (cond c 0 n))) s)
-      go e true b c qe qa h = absurd (omega arith)
-      go e false true c qe qa h = absurd (omega arith)
-      go e false false true qe qa h = absurd (omega arith)
-      go true false false false qe qa h = absurd (omega (arith, eqb-true (length s) 0 qe, ltb-false (length s) 8 qa))
-      go false false false false qe qa h = refl
-
-  -- otherwise the end, or fault 1 or 2
-  pub front-short : whole_length s ≤ 0
-      → front s ≡ cond (eqb (length s) 0) End (cond (ltb (length s) 8) (Fault 1 (length s)) (Fault 2 (length s)))
-  unfolding whole_length front
-  front-short = go (eqb (length s) 0) (ltb (length s) 8) (ltb n 8) (ltb (length s) n) refl
-    where
-      go : (e a b c : Bool) → ltb n 8 ≡ b → cond a 0 (cond b 0 (cond c 0 n)) ≤ 0
-          → cond e End
-          (cond a (Fault 1 (length s)) (cond b (Fault 2 (length s)) (cond c (Fault 2 (length s)) (decode (take n s)))))
-          ≡ cond e End (cond a (Fault 1 (length s)) (Fault 2 (length s)))
-      go true a b c qb h = refl
-      go false true b c qb h = refl
-      go false false true c qb h = refl
-      go false false false true qb h = refl
-      go false false false false qb h = absurd (omega (arith, ltb-false n 8 qb))
+    go : (e : Bool) → eqb (length s) 0 ≡ e → (a : Bool) → ltb (length s) 8 ≡ a → (b : Bool) → ltb n 8 ≡ b → (c : Bool)
+        → ltb (length s) n ≡ c → ByWhole s (cond a None (cond b None (cond c None (Some n))))
+    go e qe true qa b qb c qc = rw (qe, qa)
+    go e qe false qa true qb c qc = rw (qe, qa, qb)
+    go e qe false qa false qb true qc = rw (qe, qa, qb, qc)
+    go true qe false qa false qb false qc = absurd (omega (arith, eqb-true (length s) 0 qe, ltb-false (length s) 8 qa))
+    go false qe false qa false qb false qc = (ltb-false (length s) n qc, rw (qe, qa, qb, qc))

@@ -1,13 +1,22 @@
 -- Believed. What stands at the front of some bytes: an operation, or a fault (01, "Operations as bytes", faults 1 to 5).
 -- Assumes nothing.
-use Rattle.std.specs.Prelude.{ℕ, List, Bool, false, cond, not, ◌&&◌, ◌||◌, leb, ltb, eqb, length, get_or, take}
+use Rattle.std.specs.Prelude.{ℕ, List, Bool, false, cond, not, ◌&&◌, ◌||◌, leb, ltb, eqb, length, get_or, take, Option, None, Some, Result, Ok, Err}
 use Rattle.operation.specs.Number.{number_at}
 use Rattle.operation.specs.Format.{length_of}
 use Rattle.operation.specs.Rules.{legal}
 use Rattle.operation.specs.declared.Operation.{Operation}
 use Rattle.operation.specs.declared.Operation.TheVariants.{FormatError, CanTransmit, FdTransmit, XlTransmit, Confirm, ArbitrationLost, BusError, Configuration, Status, Wakeup}
+use Rattle.decoder.specs.declared.Fault.{Fault}
+use Rattle.decoder.specs.declared.Fault.TheVariants.{TooFewLeft, BadLength, UnknownCode, WrongLength, RuleBroken}
 use Rattle.decoder.specs.declared.Front.{Front}
-use Rattle.decoder.specs.declared.Front.TheVariants.{End, Fault, Found}
+
+-- the number of a fault in 01
+abbrev pub fault_number : Fault → ℕ
+fault_number TooFewLeft = 1
+fault_number BadLength = 2
+fault_number UnknownCode = 3
+fault_number WrongLength = 4
+fault_number RuleBroken = 5
 
 -- the ten kinds, and what is none of them
 pub data Kind : Type 0 where
@@ -78,41 +87,45 @@ length_not_of_table n op = not (eqb n (length_of op))
 
 -- ---- what the bytes of one operation are
 
--- by the tests of length and content: fault 4, fault 5, or the operation; n bytes are taken up
-unfoldable pub verdict : Bool → Bool → Operation → ℕ → Front
-verdict wrongLength lawful op n = cond wrongLength (Fault 4 n) (cond lawful (Found op n) (Fault 5 n))
+-- by the tests of length and content: fault 4, fault 5, or what was read
+unfoldable pub verdict : {A : Type 0} → Bool → Bool → A → Result A Fault
+verdict wrongLength lawful x = cond wrongLength (Err WrongLength) (cond lawful (Ok x) (Err RuleBroken))
 
 -- an operation of n bytes: fault 3, 4 or 5, or the operation
-unfoldable pub judge : ℕ → Shape → Front
-judge n none = Fault 3 n
-judge n (holds least op) = verdict (too_short n least || kind_outside op || length_not_of_table n op) (legal op) op n
+unfoldable pub judge : ℕ → Shape → Result Operation Fault
+judge n none = Err UnknownCode
+judge n (holds least op) = verdict (too_short n least || kind_outside op || length_not_of_table n op) (legal op) op
 
 -- the length field
 abbrev pub stated_length : List ℕ → ℕ
 stated_length s = number_at 4 s 4
 
 -- the bytes of one operation, by its code
-unfoldable pub decode : List ℕ → Front
+unfoldable pub decode : List ℕ → Result Operation Fault
 decode t = judge (length t) (shape_of (kind_of (number_at 4 t 0)) t)
 
--- the length of the operation that what remains of a buffer starts with; 0 where it is not all there
-unfoldable pub whole_length : List ℕ → ℕ
+-- the length of the operation that what remains of a buffer starts with; none where it is not all there
+unfoldable pub whole_length : List ℕ → Option ℕ
 whole_length s =
-    cond (ltb (length s) 8) 0
-    (cond (ltb (stated_length s) 8) 0
-    (cond (ltb (length s) (stated_length s)) 0 (stated_length s)))
+    cond (ltb (length s) 8) None
+    (cond (ltb (stated_length s) 8) None
+    (cond (ltb (length s) (stated_length s)) None (Some (stated_length s))))
 
--- the front of what remains of a buffer: the end, fault 1 or 2, which take up all of it, or an operation of the stated length
-unfoldable pub front : List ℕ → Front
+-- what stands at the front, with the number of bytes that it takes up
+abbrev pub sized : Result Operation Fault → ℕ → Front
+sized item size = record { item = item; size = size }
+
+-- the front of what remains of a buffer: none at the end, fault 1 or 2, which take up all of it, or what the bytes of the
+-- stated length are
+unfoldable pub front : List ℕ → Option Front
 front s =
-    cond (eqb (length s) 0) End
-    (cond (ltb (length s) 8) (Fault 1 (length s))
-    (cond (ltb (stated_length s) 8) (Fault 2 (length s))
-    (cond (ltb (length s) (stated_length s)) (Fault 2 (length s))
-    (decode (take (stated_length s) s)))))
+    cond (eqb (length s) 0) None
+    (cond (ltb (length s) 8) (Some (sized (Err TooFewLeft) (length s)))
+    (cond (ltb (stated_length s) 8) (Some (sized (Err BadLength) (length s)))
+    (cond (ltb (length s) (stated_length s)) (Some (sized (Err BadLength) (length s)))
+    (Some (sized (decode (take (stated_length s) s)) (stated_length s))))))
 
 -- how many bytes are taken up
-abbrev pub taken : Front → ℕ
-taken End = 0
-taken (Fault number n) = n
-taken (Found op n) = n
+abbrev pub taken : Option Front → ℕ
+taken None = 0
+taken (Some f) = f.size

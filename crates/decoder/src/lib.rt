@@ -1,19 +1,41 @@
 // Reading operations from a buffer: what stands at a position, and where the data of an operation lie.
-#![tactic(auto)]
+#![tactic(auto, unfolding(crate::specs::Front::shape_of, crate::specs::Front::verdict, crate::specs::Front::judge))]
 
-ghost use Rattle.std.specs.Prelude.{◌≡◌, not, ◌+◌, ◌^◌, ◌≤◌, ◌<◌, length, get_or};
+ghost use Rattle.std.specs.Prelude.{◌≡◌, not, ◌||◌, ◌+◌, ◌^◌, ◌≤◌, ◌<◌, length, get_or, eqb, leb};
 ghost use Rattle.operation.specs.Number.{number_at};
-ghost use Rattle.decoder.specs.Front.{format_error, can, fd, xl, confirm, arbitration_lost, bus_error, configuration, status, wakeup, setting_of, shape_of, verdict, judge, decode, whole_length, front};
+ghost use Rattle.operation.specs.Rules.{legal};
+ghost use Rattle.decoder.specs.Front.{fault_number, format_error, can, fd, xl, confirm, arbitration_lost, bus_error, configuration, status, wakeup, setting_of, shape_of, too_short, verdict, judge, decode, whole_length, front};
 ghost use Rattle.decoder.specs.Reading.{read_at, data_at};
 
-use operation::Operation;
+use operation::{Code, Operation};
+
+// What is wrong with the bytes at a position.
+#[derive(Clone, Copy, Debug, PartialEq, Eq)]
+pub enum Fault {
+    // Fewer than eight bytes are left.
+    TooFewLeft = 1,
+    // The length field is below 8 or past the end.
+    BadLength = 2,
+    UnknownCode = 3,
+    // The length is not that of the kind.
+    WrongLength = 4,
+    // A content rule is broken.
+    RuleBroken = 5,
+}
+
+impl Fault {
+    pub fn number(self) -> u8
+        ensures { result ≡ fault_number self }
+    {
+        self as u8
+    }
+}
 
 // What stands at the front of some bytes, and how many of them it takes up.
 #[derive(Clone, Copy)]
-pub enum Front {
-    End,
-    Fault { number: u8, size: usize },
-    Found { op: Operation, size: usize },
+pub struct Front {
+    pub item: Result<Operation, Fault>,
+    pub size: usize,
 }
 
 // A position in a buffer.
@@ -24,37 +46,30 @@ pub struct Cursor {
 
 // What reading at a cursor gives, with the moved cursor.
 #[derive(Clone, Copy)]
-pub enum Reading {
-    AtEnd,
-    Faulty { number: u8, next: Cursor },
-    Read { op: Operation, next: Cursor },
-}
-
-fn wide(x: u8) -> u16
-    ensures { (result ≡ x) × (result < 256) }
-{
-    x as u16
+pub struct Reading {
+    pub item: Result<Operation, Fault>,
+    pub next: Cursor,
 }
 
 // The byte at a position, and 0 past the end.
 fn byte_at(t: &[u8], i: usize) -> u8
     ensures { result ≡ get_or t.now i 0 }
 {
-    if i < t.len() { t[i] } else { 0 }
+    t.get(i).copied().unwrap_or(0)
 }
 
 fn u16_at(t: &[u8], i: usize) -> u16
     requires { i + 1 < 2 ^ 64 }
     ensures { result ≡ number_at 2 t.now i }
 {
-    wide(byte_at(t, i)) + 256 * wide(byte_at(t, i + 1))
+    u16::from_le_bytes([byte_at(t, i), byte_at(t, i + 1)])
 }
 
 fn u32_at(t: &[u8], i: usize) -> u32
     requires { i + 3 < 2 ^ 64 }
     ensures { result ≡ number_at 4 t.now i }
 {
-    u16_at(t, i) as u32 + 65536 * u16_at(t, i + 2) as u32
+    u32::from_le_bytes([byte_at(t, i), byte_at(t, i + 1), byte_at(t, i + 2), byte_at(t, i + 3)])
 }
 
 // The code that some bytes start with; bytes that are missing count as 0.
@@ -65,44 +80,42 @@ pub fn code_of(t: &[u8]) -> u32
 }
 
 // Fault 4 before fault 5.
-#[tactic(auto, unfolding(crate::specs::Front::verdict))]
-fn give_verdict(sized: bool, lawful: bool, op: Operation, size: usize) -> Front
-    ensures { result ≡ verdict (not sized) lawful op size }
+fn give_verdict<T: Copy>(sized: bool, lawful: bool, read: T) -> Result<T, Fault>
+    ensures { result ≡ verdict (not sized) lawful read }
 {
-    if sized {
-        if lawful {
-            return Front::Found { op, size };
-        }
-        return Front::Fault { number: 5, size };
+    if !sized {
+        return Err(Fault::WrongLength);
     }
-    Front::Fault { number: 4, size }
+    if !lawful {
+        return Err(Fault::RuleBroken);
+    }
+    Ok(read)
 }
 
 // The bytes of one operation, a function a kind. Each asks for the length first: the fields are then read without a test.
 
-pub fn read_format_error(t: &[u8]) -> Front
+#[tactic(auto, unfolding(crate::specs::Front::shape_of, crate::specs::Front::verdict, crate::specs::Front::judge, operation::specs::Rules::legal, operation::specs::Rules::rules, operation::specs::Rules::all_after))]
+pub fn read_format_error(t: &[u8]) -> Result<Operation, Fault>
     ensures { result ≡ judge (length t.now) (shape_of format_error t.now) }
 {
     let size = t.len();
     if size < 10 {
-        return Front::Fault { number: 4, size };
+        return Err(Fault::WrongLength);
     }
     let n = u16_at(t, 8);
     give_verdict(
         size == 10 + n as usize,
         true,
         Operation::FormatError { n },
-        size,
     )
 }
 
-#[tactic(auto, unfolding(crate::specs::Front::shape_of, crate::specs::Front::judge, crate::specs::Front::verdict))]
-pub fn read_can(t: &[u8]) -> Front
+pub fn read_can(t: &[u8]) -> Result<Operation, Fault>
     ensures { result ≡ judge (length t.now) (shape_of can t.now) }
 {
     let size = t.len();
     if size < 16 {
-        return Front::Fault { number: 4, size };
+        return Err(Fault::WrongLength);
     }
     let id = u32_at(t, 8);
     let ide = byte_at(t, 12);
@@ -113,16 +126,15 @@ pub fn read_can(t: &[u8]) -> Front
         size == 16 + dl as usize,
         lawful,
         Operation::CanTransmit { id, ide, rtr, dl },
-        size,
     )
 }
 
-pub fn read_fd(t: &[u8]) -> Front
+pub fn read_fd(t: &[u8]) -> Result<Operation, Fault>
     ensures { result ≡ judge (length t.now) (shape_of fd t.now) }
 {
     let size = t.len();
     if size < 17 {
-        return Front::Fault { number: 4, size };
+        return Err(Fault::WrongLength);
     }
     let id = u32_at(t, 8);
     let ide = byte_at(t, 12);
@@ -140,16 +152,15 @@ pub fn read_fd(t: &[u8]) -> Front
             esi,
             dl,
         },
-        size,
     )
 }
 
-pub fn read_xl(t: &[u8]) -> Front
+pub fn read_xl(t: &[u8]) -> Result<Operation, Fault>
     ensures { result ≡ judge (length t.now) (shape_of xl t.now) }
 {
     let size = t.len();
     if size < 22 {
-        return Front::Fault { number: 4, size };
+        return Err(Fault::WrongLength);
     }
     let id = u32_at(t, 8);
     let ide = byte_at(t, 12);
@@ -171,40 +182,41 @@ pub fn read_xl(t: &[u8]) -> Front
             af,
             dl,
         },
-        size,
     )
 }
 
-pub fn read_confirm(t: &[u8]) -> Front
+// The ID of an operation that has no other field.
+fn lone_id(t: &[u8]) -> Result<u32, Fault>
+    ensures { result ≡ verdict (too_short (length t.now) 12 || not (eqb (length t.now) 12)) (legal (Operation.Confirm (number_at 4 t.now 8))) (number_at 4 t.now 8) }
+{
+    let size = t.len();
+    if size < 12 {
+        return Err(Fault::WrongLength);
+    }
+    let id = u32_at(t, 8);
+    let lawful = operation::id_is_legal(id);
+    give_verdict(size == 12, lawful, id)
+}
+
+pub fn read_confirm(t: &[u8]) -> Result<Operation, Fault>
     ensures { result ≡ judge (length t.now) (shape_of confirm t.now) }
 {
-    let size = t.len();
-    if size < 12 {
-        return Front::Fault { number: 4, size };
-    }
-    let id = u32_at(t, 8);
-    let lawful = operation::id_is_legal(id);
-    give_verdict(size == 12, lawful, Operation::Confirm { id }, size)
+    lone_id(t).map(|id| Operation::Confirm { id })
 }
 
-pub fn read_arbitration_lost(t: &[u8]) -> Front
+#[tactic(auto, unfolding(crate::specs::Front::shape_of, crate::specs::Front::verdict, crate::specs::Front::judge, operation::specs::Rules::legal, operation::specs::Rules::rules, operation::specs::Rules::all_after))]
+pub fn read_arbitration_lost(t: &[u8]) -> Result<Operation, Fault>
     ensures { result ≡ judge (length t.now) (shape_of arbitration_lost t.now) }
 {
-    let size = t.len();
-    if size < 12 {
-        return Front::Fault { number: 4, size };
-    }
-    let id = u32_at(t, 8);
-    let lawful = operation::id_is_legal(id);
-    give_verdict(size == 12, lawful, Operation::ArbitrationLost { id }, size)
+    lone_id(t).map(|id| Operation::ArbitrationLost { id })
 }
 
-pub fn read_bus_error(t: &[u8]) -> Front
+pub fn read_bus_error(t: &[u8]) -> Result<Operation, Fault>
     ensures { result ≡ judge (length t.now) (shape_of bus_error t.now) }
 {
     let size = t.len();
     if size < 15 {
-        return Front::Fault { number: 4, size };
+        return Err(Fault::WrongLength);
     }
     let id = u32_at(t, 8);
     let error_code = byte_at(t, 12);
@@ -220,7 +232,6 @@ pub fn read_bus_error(t: &[u8]) -> Front
             error_flag,
             is_sender,
         },
-        size,
     )
 }
 
@@ -229,18 +240,18 @@ fn setting_at(t: &[u8], kind: u8) -> u32
     ensures { result ≡ setting_of kind t.now }
 {
     if kind == operation::ARBITRATION_LOST_BEHAVIOR {
-        wide(byte_at(t, 9)) as u32
+        u32::from(byte_at(t, 9))
     } else {
         u32_at(t, 9)
     }
 }
 
-pub fn read_configuration(t: &[u8]) -> Front
+pub fn read_configuration(t: &[u8]) -> Result<Operation, Fault>
     ensures { result ≡ judge (length t.now) (shape_of configuration t.now) }
 {
     let size = t.len();
     if size < 9 {
-        return Front::Fault { number: 4, size };
+        return Err(Fault::WrongLength);
     }
     let kind = byte_at(t, 8);
     let value = setting_at(t, kind);
@@ -251,118 +262,96 @@ pub fn read_configuration(t: &[u8]) -> Front
         known & (size == expected),
         lawful,
         Operation::Configuration { kind, value },
-        size,
     )
 }
 
-pub fn read_status(t: &[u8]) -> Front
+pub fn read_status(t: &[u8]) -> Result<Operation, Fault>
     ensures { result ≡ judge (length t.now) (shape_of status t.now) }
 {
     let size = t.len();
     if size < 9 {
-        return Front::Fault { number: 4, size };
+        return Err(Fault::WrongLength);
     }
     let status = byte_at(t, 8);
     let lawful = operation::status_is_legal(status);
-    give_verdict(size == 9, lawful, Operation::Status { status }, size)
+    give_verdict(size == 9, lawful, Operation::Status { status })
 }
 
-pub fn read_wakeup(t: &[u8]) -> Front
+#[tactic(auto, unfolding(crate::specs::Front::shape_of, crate::specs::Front::verdict, crate::specs::Front::judge, operation::specs::Rules::legal, operation::specs::Rules::rules, operation::specs::Rules::all_after))]
+pub fn read_wakeup(t: &[u8]) -> Result<Operation, Fault>
     ensures { result ≡ judge (length t.now) (shape_of wakeup t.now) }
 {
     let size = t.len();
     if size < 8 {
-        return Front::Fault { number: 4, size };
+        return Err(Fault::WrongLength);
     }
-    give_verdict(size == 8, true, Operation::Wakeup, size)
+    give_verdict(size == 8, true, Operation::Wakeup)
 }
 
 // The bytes of one operation, by its code.
-fn read_operation(t: &[u8]) -> Front
+#[tactic(auto, using(crate::proofs::Codes::kind_by_code), unfolding(crate::specs::Front::decode, crate::specs::Front::shape_of, crate::specs::Front::judge))]
+fn read_operation(t: &[u8]) -> Result<Operation, Fault>
     ensures { result ≡ decode t.now }
 {
-    let code = code_of(t);
-    match code {
-        0x01 => read_format_error(t),
-        0x10 => read_can(t),
-        0x11 => read_fd(t),
-        0x12 => read_xl(t),
-        0x20 => read_confirm(t),
-        0x30 => read_arbitration_lost(t),
-        0x31 => read_bus_error(t),
-        0x40 => read_configuration(t),
-        0x41 => read_status(t),
-        0x42 => read_wakeup(t),
-        _ => Front::Fault {
-            number: 3,
-            size: t.len(),
-        },
+    match Code::try_from(code_of(t)) {
+        Ok(Code::FormatError) => read_format_error(t),
+        Ok(Code::CanTransmit) => read_can(t),
+        Ok(Code::FdTransmit) => read_fd(t),
+        Ok(Code::XlTransmit) => read_xl(t),
+        Ok(Code::Confirm) => read_confirm(t),
+        Ok(Code::ArbitrationLost) => read_arbitration_lost(t),
+        Ok(Code::BusError) => read_bus_error(t),
+        Ok(Code::Configuration) => read_configuration(t),
+        Ok(Code::Status) => read_status(t),
+        Ok(Code::Wakeup) => read_wakeup(t),
+        Err(_) => Err(Fault::UnknownCode),
     }
 }
 
-// The length of the operation that the rest of a buffer starts with; 0 at the end, and where fault 1 or 2 stands there.
+// The length of the operation that the rest of a buffer starts with; none at the end, and where fault 1 or 2 stands there.
 #[tactic(auto, unfolding(crate::specs::Front::whole_length))]
-pub fn whole_length(s: &[u8]) -> usize
+pub fn whole_length(s: &[u8]) -> Option<usize>
     ensures { result ≡ whole_length s.now }
 {
-    let left = s.len();
-    if left < 8 {
-        return 0;
+    if s.len() < 8 {
+        return None;
     }
     let stated = u32_at(s, 4) as usize;
     if stated < 8 {
-        return 0;
+        return None;
     }
-    if left < stated {
-        return 0;
+    if s.len() < stated {
+        return None;
     }
-    stated
+    Some(stated)
 }
 
-// What stands at the front of the rest of a buffer.
-pub fn read_front(s: &[u8]) -> Front
+// What stands at the front of the rest of a buffer; none at the end.
+pub fn read_front(s: &[u8]) -> Option<Front>
     ensures { result ≡ front s.now }
 {
-    let whole = whole_length(s);
-    if 0 < whole {
-        return read_operation(&s[..whole]);
+    if let Some(size) = whole_length(s) {
+        let item = read_operation(&s[..size]);
+        return Some(Front { item, size });
     }
-    let left = s.len();
-    if left == 0 {
-        return Front::End;
+    let size = s.len();
+    if size == 0 {
+        return None;
     }
-    if left < 8 {
-        return Front::Fault {
-            number: 1,
-            size: left,
-        };
+    if size < 8 {
+        return Some(Front { item: Err(Fault::TooFewLeft), size });
     }
-    Front::Fault {
-        number: 2,
-        size: left,
-    }
+    Some(Front { item: Err(Fault::BadLength), size })
 }
 
 impl Cursor {
-    // Reads at the cursor.
-    pub fn read(self, s: &[u8]) -> Reading
+    // Reads at the cursor; none at the end.
+    pub fn read(self, s: &[u8]) -> Option<Reading>
         ensures { result ≡ read_at s.now self.at }
     {
-        let at = self.at;
-        if s.len() <= at {
-            return Reading::AtEnd;
-        }
-        match read_front(&s[at..]) {
-            Front::End => Reading::AtEnd,
-            Front::Fault { number, size } => Reading::Faulty {
-                number,
-                next: Cursor { at: at + size },
-            },
-            Front::Found { op, size } => Reading::Read {
-                op,
-                next: Cursor { at: at + size },
-            },
-        }
+        let front = read_front(s.get(self.at..)?)?;
+        let next = Cursor { at: self.at + front.size };
+        Some(Reading { item: front.item, next })
     }
 }
 
@@ -374,10 +363,7 @@ pub fn data(s: &[u8], op: Operation, next: Cursor) -> &[u8]
     let end = next.at;
     let n = operation::data_length(op) as usize;
     if end < operation::head_length(op) + n {
-        return &s[..0];
+        return b"";
     }
-    if s.len() < end {
-        return &s[..0];
-    }
-    &s[end - n..end]
+    s.get(end - n..end).unwrap_or(b"")
 }

@@ -1,10 +1,11 @@
 -- Believed. What the calls for C answer, from what the calls of the library answer.
 -- Assumes nothing.
-use Rattle.std.specs.Prelude.{ℕ, ◌-◌, List, Option, Some, None, Ok, Err, cond, eqb, length}
+use Rattle.std.specs.Prelude.{ℕ, ◌-◌, List, cond, eqb, length, Option, None, Some, Result, Ok, Err}
 use Rattle.operation.specs.declared.Operation.{Operation}
+use Rattle.decoder.specs.Front.{fault_number}
 use Rattle.decoder.specs.Reading.{data_at}
+use Rattle.decoder.specs.declared.Fault.{Fault}
 use Rattle.decoder.specs.declared.Reading.{Reading}
-use Rattle.decoder.specs.declared.Reading.TheVariants.{AtEnd, Faulty, Read}
 use Rattle.encoder.specs.Writing.{Written, written_number, write_outcome, written_of}
 use Rattle.encoder.specs.declared.WriteError.TheVariants.{RuleBroken}
 use Rattle.kettlefrost.specs.Flat.{flat, blank}
@@ -15,11 +16,15 @@ use Rattle.kettlefrost.specs.declared.WriteAnswer.{WriteAnswer}
 abbrev pub no_operation : ℕ → ℕ → ℕ → ReadAnswer
 no_operation end fault next = record { end = end; fault = fault; next = next; operation = blank }
 
--- a reading at a position: the end (and the position itself), a fault, or the operation
-abbrev pub read_answer : ℕ → Reading → ReadAnswer
-read_answer at AtEnd = no_operation 1 0 at
-read_answer at (Faulty number next) = no_operation 0 number next.at
-read_answer at (Read op next) = record { end = 0; fault = 0; next = next.at; operation = flat op }
+-- what is read, a fault or an operation, with the position after it
+abbrev pub item_answer : Result Operation Fault → ℕ → ReadAnswer
+item_answer (Err f) next = no_operation 0 (fault_number f) next
+item_answer (Ok op) next = record { end = 0; fault = 0; next = next; operation = flat op }
+
+-- a reading at a position: the end (and the position itself), or what is read
+abbrev pub read_answer : ℕ → Option Reading → ReadAnswer
+read_answer at None = no_operation 1 0 at
+read_answer at (Some r) = item_answer r.item r.next.at
 
 -- where the data of an operation lie: they end at a position; 0 and 0 where there are none
 abbrev pub part_of : List ℕ → ℕ → PartAnswer

@@ -5,18 +5,18 @@ pub mod layout;
 pub mod register;
 
 ghost use Rattle.std.specs.Prelude.{◌≡◌, length, ◌+◌, ◌<◌, ◌^◌};
-ghost use Rattle.decoder.specs.Front.{decode, taken};
-ghost use Rattle.decoder.specs.Reading.{placed, read_at};
+ghost use Rattle.decoder.specs.Front.{decode};
+ghost use Rattle.decoder.specs.Reading.{read_at};
 ghost use Rattle.bus_state.specs.Memory.{held};
 ghost use Rattle.bus_model.specs.Primitives.{new_state};
 ghost use Rattle.bus_model.specs.Calls.{start_in, submit_in, round_in, collect_in, buffer_after};
 ghost use Rattle.plain_bus.specs.Round.{injection_from};
 ghost use Rattle.bus.specs.Left.{left, leaves};
 ghost use Rattle.kettlefrost.specs.Flat.{flat, named};
-ghost use Rattle.kettlefrost.specs.Calls.{no_operation, read_answer, data_answer, length_written, answer_named, write_answer, buffer_after_write};
+ghost use Rattle.kettlefrost.specs.Calls.{no_operation, item_answer, read_answer, data_answer, length_written, answer_named, write_answer, buffer_after_write};
 
 use bus_state::State;
-use decoder::{Cursor, Front};
+use decoder::{Cursor, Fault, Front};
 use encoder::WriteError;
 use operation::{Code, Operation};
 use outcome::Answer;
@@ -226,41 +226,38 @@ fn no_operation(end: u32, fault: u32, next: usize) -> ReadAnswer
     }
 }
 
-// What stands at the front of the bytes from a position on.
-fn answer_front(at: usize, f: Front) -> ReadAnswer
-    requires { at + taken f < 2 ^ 64 }
-    ensures { result ≡ read_answer at (placed at f) }
+// What was read, with the position behind it.
+fn answer_item(item: Result<Operation, Fault>, next: usize) -> ReadAnswer
+    ensures { result ≡ item_answer item next }
 {
-    match f {
-        Front::End => no_operation(1, 0, at),
-        Front::Fault { number, size } => no_operation(0, number as u32, at + size),
-        Front::Found { op, size } => ReadAnswer {
+    match item {
+        Ok(op) => ReadAnswer {
             end: 0,
             fault: 0,
-            next: at + size,
+            next,
             operation: op.into(),
         },
+        Err(fault) => no_operation(0, u32::from(fault.number()), next),
     }
 }
 
 // The bytes of one operation by its code: a reader a kind, so that the operation goes through no memory.
-fn read_named(t: &[u8], at: usize) -> ReadAnswer
-    requires { at + length t.now < 2 ^ 64 }
-    ensures { result ≡ read_answer at (placed at (decode t.now)) }
+#[tactic(auto, using(decoder::proofs::Codes::kind_by_code), unfolding(decoder::specs::Front::decode, decoder::specs::Front::shape_of, decoder::specs::Front::judge))]
+fn read_named(t: &[u8], next: usize) -> ReadAnswer
+    ensures { result ≡ item_answer (decode t.now) next }
 {
-    let code = decoder::code_of(t);
-    match code {
-        0x01 => answer_front(at, decoder::read_format_error(t)),
-        0x10 => answer_front(at, decoder::read_can(t)),
-        0x11 => answer_front(at, decoder::read_fd(t)),
-        0x12 => answer_front(at, decoder::read_xl(t)),
-        0x20 => answer_front(at, decoder::read_confirm(t)),
-        0x30 => answer_front(at, decoder::read_arbitration_lost(t)),
-        0x31 => answer_front(at, decoder::read_bus_error(t)),
-        0x40 => answer_front(at, decoder::read_configuration(t)),
-        0x41 => answer_front(at, decoder::read_status(t)),
-        0x42 => answer_front(at, decoder::read_wakeup(t)),
-        _ => no_operation(0, 3, at + t.len()),
+    match Code::try_from(decoder::code_of(t)) {
+        Ok(Code::FormatError) => answer_item(decoder::read_format_error(t), next),
+        Ok(Code::CanTransmit) => answer_item(decoder::read_can(t), next),
+        Ok(Code::FdTransmit) => answer_item(decoder::read_fd(t), next),
+        Ok(Code::XlTransmit) => answer_item(decoder::read_xl(t), next),
+        Ok(Code::Confirm) => answer_item(decoder::read_confirm(t), next),
+        Ok(Code::ArbitrationLost) => answer_item(decoder::read_arbitration_lost(t), next),
+        Ok(Code::BusError) => answer_item(decoder::read_bus_error(t), next),
+        Ok(Code::Configuration) => answer_item(decoder::read_configuration(t), next),
+        Ok(Code::Status) => answer_item(decoder::read_status(t), next),
+        Ok(Code::Wakeup) => answer_item(decoder::read_wakeup(t), next),
+        Err(_) => answer_item(Err(Fault::UnknownCode), next),
     }
 }
 
@@ -268,15 +265,16 @@ fn read_named(t: &[u8], at: usize) -> ReadAnswer
 pub fn kf_read(buffer: &[u8], at: usize) -> ReadAnswer
     ensures { result ≡ read_answer at (read_at buffer.now at) }
 {
-    if buffer.len() <= at {
+    let Some(rest) = buffer.get(at..) else {
         return no_operation(1, 0, at);
+    };
+    if let Some(size) = decoder::whole_length(rest) {
+        return read_named(&rest[..size], at + size);
     }
-    let rest = &buffer[at..];
-    let whole = decoder::whole_length(rest);
-    if 0 < whole {
-        return read_named(&rest[..whole], at);
+    match decoder::read_front(rest) {
+        Some(Front { item, size }) => answer_item(item, at + size),
+        None => no_operation(1, 0, at),
     }
-    answer_front(at, decoder::read_front(rest))
 }
 
 // Where the data of an operation that ends at a position lie.
@@ -353,20 +351,17 @@ pub fn kf_write(operation: FlatOperation, payload: &[u8], buffer: &mut [u8]) -> 
     }
 }
 
-const SLOTS: usize = bus_state::SLOT_COUNT;
-
-// The calls of the bus. A start loads the lent slots and stores them. The others go over the pending ones once, in place, call the bus
-// with that pass's key and what they need of the slots, and put back those that changed.
+// The calls of the bus. They go over the pending slots once, in place, call the bus with that pass's key and what they need of the slots,
+// and put back those that changed; a start sets all of them.
 
 pub fn kf_start(slots: &mut [Slot], payload: &[u8], queues: &[u8], count: u32) -> Answer
     ensures { left result slots.new payload.now queues.now ≡ leaves (start_in (held (new_state 0) slots.old payload.now queues.now) count) }
 {
-    if slots.len() != SLOTS {
+    let Ok(lent) = <&[Slot; 32]>::try_from(&*slots) else {
         return bus::no_start();
-    }
-    let a = lent_slots::load(slots);
-    let c = bus::start(a, payload, queues, count);
-    lent_slots::store(slots, bus::slots_started(c));
+    };
+    let c = bus::start(*lent, payload, queues, count);
+    slots.copy_from_slice(&bus::slots_started(c));
     bus::answer_started(c)
 }
 
@@ -380,13 +375,13 @@ pub fn kf_submit(
 ) -> Answer
     ensures { left result slots.new payload.new queues.new ≡ leaves (submit_in (held state slots.old payload.old queues.old) node buffer.now) }
 {
-    if slots.len() != SLOTS {
+    let Ok(lent) = <&[Slot; 32]>::try_from(&*slots) else {
         return bus::wrong_memory(state);
-    }
+    };
     // Read before the pass, which goes on while they are copied.
     let at = submission::first_slot(node);
-    let four = lent_slots::block_at(slots, at);
-    let key = lent_scan::scan(slots, state);
+    let four = lent_slots::block_at(lent, at);
+    let key = lent_scan::scan(lent, state);
     let c = bus::submit(state, key, four, payload, queues, node, buffer);
     lent_scan::finish(slots, c)
 }
@@ -402,14 +397,14 @@ pub fn kf_round(
 ) -> Answer
     ensures { left result slots.new payload.new queues.new ≡ leaves (round_in (held state slots.old payload.old queues.old) (injection_from injected code detector)) }
 {
-    if slots.len() != SLOTS {
+    let Ok(lent) = <&[Slot; 32]>::try_from(&*slots) else {
         return bus::wrong_memory(state);
-    }
+    };
     // Read before the pass, which goes on while they are copied.
-    let ids = lent_slots::ids(slots);
-    let key = lent_scan::scan(slots, state);
+    let ids = lent_slots::ids(lent);
+    let key = lent_scan::scan(lent, state);
     let at = scan::winner_block(key);
-    let four = lent_slots::block_at(slots, at);
+    let four = lent_slots::block_at(lent, at);
     let c = bus::round(
         state, key, four, ids, payload, queues, injected, code, detector,
     );

@@ -12,39 +12,28 @@ use outcome::{Answer, Change};
 use scan::Run;
 use slots::Slot;
 
-const SLOTS: usize = bus_state::SLOT_COUNT;
-
 // The key with n frames of node j.
-fn frames_key(slots: &[Slot], key: u64, n: usize, j: usize, round: u32) -> u64
-    requires { (length slots.now ≡ 32) × (n ≤ 4) × (j < 8) }
+fn frames_key(slots: &[Slot; 32], key: u64, n: usize, j: usize, round: u32) -> u64
+    requires { (n ≤ 4) × (j < 8) }
     ensures { result ≡ frames_key n j round slots.now key }
 {
     let mut run = Run::begin(key);
-    let mut p = 4 * j;
-    let end = p + n;
-    while p < end {
-        let x = slots[p];
-        run = run.step(x, j, p);
-        p += 1;
+    let first = 4 * j;
+    for p in first..first + n {
+        run = run.step(slots[p], j, p);
     }
     run.end(round)
 }
 
 // The key of a state with its slots: 0 where they are not valid (01: not sound), else the winner's.
-pub fn scan(slots: &[Slot], s: State) -> u64
-    requires { length slots.now ≡ 32 }
+pub fn scan(slots: &[Slot; 32], s: State) -> u64
     ensures { result ≡ scanned s slots.now }
 {
-    let count = scan::attached(s);
     let nodes = s.nodes;
     let mut key = scan::first_key(s);
-    let mut j: usize = 0;
-    while j < count {
+    for j in 0..scan::attached(s) {
         let d = nodes[j];
-        let entered = scan::entry_key(d, key);
-        let n = scan::frame_count(d);
-        key = frames_key(slots, entered, n, j, s.round);
-        j += 1;
+        key = frames_key(slots, scan::entry_key(d, key), scan::frame_count(d), j, s.round);
     }
     key
 }
@@ -53,29 +42,10 @@ pub fn scan(slots: &[Slot], s: State) -> u64
 pub fn key(slots: &[Slot], s: State) -> u64
     ensures { length slots.now ≡ 32 → result ≡ scanned s slots.now }
 {
-    if slots.len() != SLOTS {
+    let Ok(slots) = <&[Slot; 32]>::try_from(slots) else {
         return scan::INVALID;
-    }
+    };
     scan(slots, s)
-}
-
-fn position(c: Change) -> usize
-    ensures { result ≡ c.at }
-{
-    c.at
-}
-
-fn block(c: Change) -> [Slot; 4]
-    ensures { result ≡ c.block }
-{
-    c.block
-}
-
-fn answer(c: Change) -> Answer
-    ensures { result ≡ answer_of c.outcome c.state }
-{
-    let outcome = c.outcome;
-    outcome::answer_of(outcome, c.state)
 }
 
 // The end of a call that may change slots: it puts back the four that changed, and answers.
@@ -84,6 +54,6 @@ pub fn finish(slots: &mut [Slot], c: Change) -> Answer
     ensures answer { result ≡ answer_of c.outcome c.state }
     ensures slots { slots.new ≡ set_block slots.old c.at c.block }
 {
-    lent_slots::put_block(slots, position(c), block(c));
-    answer(c)
+    lent_slots::put_block(slots, c.at, c.block);
+    outcome::answer_of(c.outcome, c.state)
 }

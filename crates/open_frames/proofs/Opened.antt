@@ -1,19 +1,14 @@
 -- What the plain register's lists are in the words of the library: what is valid, closed and handed back.
 -- Assumes nothing.
-use Rattle.std.proofs.Common.{ℕ, suc, ◌+◌, ◌-◌, ◌≤◌, ◌<◌, add-one, arith, rules}
+use Rattle.std.proofs.Common.{ℕ, suc, ◌+◌, ◌-◌, ◌≤◌, ◌<◌, arith, rules}
 use Rattle.std.proofs.Common.{Bool, true, false, not, cond, ◌||◌, ◌&&◌, eqb, leb, ltb, ◌==◌, Some, None}
-use Rattle.std.proofs.Common.{List, [], ◌∷◌, ◌++◌, append-nil, length, take, drop, length-append, length-take, length-drop}
+use Rattle.std.proofs.Common.{List, [], ◌∷◌, append-nil, length, take, length-append, length-take}
 use Rattle.std.proofs.Common.{◌≡◌, refl, sym, ◌∙◌}
 use Rattle.std.proofs.lemmas.Bool.Decides.{nat_tests}
-use Rattle.std.proofs.lemmas.Grind.{common_steps}
-use Rattle.std.proofs.lemmas.List.{length-replicate}
-use Rattle.std.proofs.lemmas.List.Edits.{take-paste}
-use Rattle.std.proofs.lemmas.Slice.{between_is}
-use Rattle.std.proofs.Math.ListN.{replicate}
-use Rattle.std.proofs.Math.Seq.{length-take-le, take-take}
-use Rattle.std.specs.List.{position, position_or_len, list_all, copy_within}
+use Rattle.std.proofs.lemmas.List.{length-replicate, drop-replicate}
+use Rattle.std.proofs.Math.Seq.{length-take-le}
+use Rattle.std.specs.List.{position, position_or_len, list_all, remove}
 use mir.Val.{bool_byte}
-use borrow.Rule.Slice.PartMut.{put_mid}
 use borrow.Author.Tests.{lt-leb, le-leb, leb-true, leb-false}
 use Rattle.operation.specs.Rules.{max_extended_id}
 use Rattle.plain_bus.specs.Refusal.{register_differs}
@@ -84,16 +79,12 @@ found id (x ∷ xs) = rw (found id xs) (go (eqb x id))
     go true = grind (arith, nat_tests)
     go false = grind (arith, nat_tests)
 
--- without the entry at a place
-abbrev cut : ℕ → List ℕ → List ℕ
-cut i l = take i l ++ drop (suc i) l
-
-removed : (id : ℕ) (l : List ℕ) → plain.remove id l ≡ cut (place_of id l) l
+removed : (id : ℕ) (l : List ℕ) → plain.remove id l ≡ remove l (place_of id l)
 unfolding plain.remove
 removed id [] = refl
 removed id (x ∷ xs) = rw (removed id xs) (go (eqb x id))
   where
-    go : (t : Bool) → cond t xs (x ∷ cut (place_of id xs) xs) ≡ cut (cond (not t) (1 + place_of id xs) 0) (x ∷ xs)
+    go : (t : Bool) → cond t xs (x ∷ remove xs (place_of id xs)) ≡ remove (x ∷ xs) (cond (not t) (1 + place_of id xs) 0)
     go true = refl
     go false = search rules
 
@@ -108,37 +99,22 @@ module _ (r : plain.Register) (id : ℕ) where
       go false u e = refl
 
   pub closes_at : (place : ℕ) → Some place ≡ position (λ x. x == id) r.opened
-      → plain.updated (plain.with_opened r (cut place r.opened)) ≡ plain.close_id r id
+      → plain.updated (plain.with_opened r (remove r.opened place)) ≡ plain.close_id r id
   unfolding plain.close_id
   closes_at place e = rw (found id r.opened, removed id r.opened) (go (ltb (place_of id r.opened) (length r.opened)) _ e)
     where
       go : (t : Bool) (u : plain.Update) → Some place ≡ cond t (Some (place_of id r.opened)) None
-          → plain.updated (plain.with_opened r (cut place r.opened))
-          ≡ cond t (plain.updated (plain.with_opened r (cut (place_of id r.opened) r.opened))) u
+          → plain.updated (plain.with_opened r (remove r.opened place))
+          ≡ cond t (plain.updated (plain.with_opened r (remove r.opened (place_of id r.opened)))) u
       go true u e = cc
       go false u e = cc
 
--- the IDs behind a place have moved down by one
-pub moved_down : (ids : List ℕ) (n place : ℕ) → n ≤ length ids → place < length (take n ids)
-    → take (n - 1) (copy_within ids (place + 1) n place) ≡ cut place (take n ids)
-moved_down ids n place fits h =
-    let l : length (take n ids) ≡ n = length-take-le n ids fits in
-    let a : n - 1 ≡ place + (n - (place + 1)) = omega arith in
-    let behind : n - (place + 1) ≤ length (drop (place + 1) ids) = simp length-drop (omega arith) in
-    let copied = take-paste ids place (drop (place + 1) ids) (n - (place + 1)) (omega arith) behind in
-    rw (a, copied, take-take place n ids (omega arith), add-one, between_is)
-
-pub ruleset closing = (closes_none, closes_at, moved_down)
+pub ruleset closing = (closes_none, closes_at)
 
 -- ---- the form that a call hands back
-
--- zeros behind the open IDs
-pub zeroed : (ids : List ℕ) (n : ℕ) → length ids ≡ 345 → n ≤ 345
-    → put_mid n (345 - n) ids (replicate (length (take (345 - n) (drop n ids))) 0) ≡ take n ids ++ replicate (345 - n) 0
-zeroed ids n k h = grind (arith, common_steps)
 
 pub off_is : (b : Bool) → bool_byte b ≡ cond b 1 0
 off_is true = refl
 off_is false = refl
 
-pub ruleset flat = (zeroed, off_is)
+pub ruleset flat = (drop-replicate, off_is)

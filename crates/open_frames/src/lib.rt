@@ -11,6 +11,7 @@ ghost use Rattle.plain_bus.specs.Register as plain;
 ghost use Rattle.open_frames.specs.Record.{open_in, record_of, answered};
 ghost use Rattle.open_frames.specs.Steps.{update_of, opened_from, IsStep, answer_of};
 
+use arrayvec::ArrayVec;
 use decoder::{Cursor, Reading};
 use operation::{NodeStatus, Operation};
 use std::marker::Model;
@@ -41,23 +42,19 @@ enum Refusal {
     Differs = 13,
 }
 
-// The register that a call works on. Clauses see it as the plain register: the first count IDs, and whether the node is Bus-Off.
+// The register that a call works on. Clauses see it as the plain register: the open IDs, and whether the node is Bus-Off.
 #[derive(Drop)]
 struct OpenFrames {
-    ids: [u32; MAX_OPEN],
-    count: usize,
+    ids: ArrayVec<u32, MAX_OPEN>,
     off: bool,
 }
 
 impl Model for OpenFrames {
-    ghost use Rattle.std.specs.Prelude.{◌≤◌, take};
     ghost use Rattle.plain_bus.specs.Register.{Register};
 
     ghost Value = { Register };
 
-    ghost view = { λ r. record { opened = take r.count r.ids; off = r.off } };
-
-    ghost invariant = { λ r. r.count ≤ 345 };
+    ghost view = { λ r. record { opened = r.ids.items; off = r.off } };
 }
 
 impl OpenFrames {
@@ -69,11 +66,10 @@ impl OpenFrames {
         if self.off {
             return Ok(());
         }
-        if MAX_OPEN <= self.count {
+        if self.ids.is_full() {
             return Err(Refusal::Full);
         }
-        self.ids[self.count] = id;
-        self.count += 1;
+        self.ids.push(id);
         Ok(())
     }
 
@@ -84,7 +80,7 @@ impl OpenFrames {
     {
         self.off = status == NodeStatus::BusOff as u8;
         if self.off {
-            self.count = 0;
+            self.ids.clear();
         }
     }
 
@@ -92,10 +88,10 @@ impl OpenFrames {
     fn place_of(&self, id: u32) -> Option<usize>
         ensures { result ≡ position (λ x. x == id) self.now.opened }
     {
-        self.ids[..self.count].iter().position(|&x| x == id)
+        self.ids.as_slice().iter().position(|&x| x == id)
     }
 
-    // Takes the first equal ID out; the later ones move down by one.
+    // Takes the first equal ID out.
     #[tactic(auto, using(crate::proofs::Opened::closing))]
     fn close(&mut self, id: u32) -> Result<(), Refusal>
         ensures { update_of result self.new ≡ close_id self.old id }
@@ -103,8 +99,7 @@ impl OpenFrames {
         let Some(place) = self.place_of(id) else {
             return Err(Refusal::Differs);
         };
-        self.ids.copy_within(place + 1..self.count, place);
-        self.count -= 1;
+        self.ids.remove(place);
         Ok(())
     }
 
@@ -151,16 +146,16 @@ impl OpenFrames {
             → update_of result self.new ≡ updates g (items_of buffer.now) (updated self.old) }
     {
         let mut cursor = Cursor { at: 0 };
-        loop {
-            match cursor.read(buffer) {
-                Reading::AtEnd => return Ok(()),
-                Reading::Faulty { next, .. } => cursor = next,
-                Reading::Read { op, next } => {
+        while let Some(Reading { item, next }) = cursor.read(buffer) {
+            match item {
+                Ok(op) => {
                     step(self, op)?;
                     cursor = next;
                 }
+                Err(_) => cursor = next,
             }
         }
+        Ok(())
     }
 }
 
@@ -175,11 +170,9 @@ impl TryFrom<Register> for OpenFrames {
             return Err(Refusal::Invalid);
         }
         let Register { ids, count, off } = register;
-        Ok(OpenFrames {
-            ids,
-            count: count as usize,
-            off: off != 0,
-        })
+        let mut ids = ArrayVec::from(ids);
+        ids.truncate(count as usize);
+        Ok(OpenFrames { ids, off: off != 0 })
     }
 }
 
@@ -189,11 +182,12 @@ impl From<OpenFrames> for Register {
     // 0 past the open IDs.
     #[tactic(auto, using(crate::proofs::Opened::flat), unfolding(crate::specs::Record::record_of))]
     fn from(frames: OpenFrames) -> Register {
-        let mut ids = frames.ids;
-        ids[frames.count..].fill(0);
+        let count = frames.ids.len();
+        let mut ids = [0; MAX_OPEN];
+        ids[..count].copy_from_slice(frames.ids.as_slice());
         Register {
             ids,
-            count: frames.count as u32,
+            count: count as u32,
             off: frames.off as u32,
         }
     }

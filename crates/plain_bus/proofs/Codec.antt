@@ -14,8 +14,8 @@ use Rattle.operation.specs.declared.Operation.{Operation}
 use Rattle.operation.specs.declared.Operation.TheVariants.{FormatError, Confirm, ArbitrationLost, BusError, Wakeup}
 use Rattle.operation.proofs.Sizes.{encode-length}
 use Rattle.operation.proofs.Tests.{false_is_true, both, passed}
-use Rattle.decoder.specs.Front.{front}
-use Rattle.decoder.specs.declared.Front.TheVariants.{Found}
+use Rattle.std.proofs.Common.{Some, Ok}
+use Rattle.decoder.specs.Front.{sized, front}
 use Rattle.decoder.proofs.Encoded.{encoded}
 use Rattle.plain_bus.proofs.ValidBus.{ReadsWhole}
 use Rattle.plain_bus.specs.Register.{none_above}
@@ -24,7 +24,7 @@ pub reads-written : (op : Operation) (payload : List ℕ) → TypedOperation op 
     → data_length op < 65_536 → ReadsWhole op (encode op payload)
 reads-written op payload ty l p small =
     let size : length (encode op payload) ≡ length_of op = encode-length op payload ∙ ap (λ (n : ℕ). head_length op + n) p in
-    ap front (sym (append-nil (encode op payload))) ∙ encoded op payload [] ty l p small ∙ ap (Found op) (sym size)
+    ap front (sym (append-nil (encode op payload))) ∙ encoded op payload [] ty l p small ∙ ap (λ (n : ℕ). Some (sized (Ok op) n)) (sym size)
 
 pub reads-confirm : (id : ℕ) → id ≤ max_extended_id → ReadsWhole (Confirm id) (encode (Confirm id) [])
 unfolding legal rules all_after

@@ -9,15 +9,15 @@ use mathlib.Core.Bool.{Bool, true, false}
 use lib.ListN.{length}
 use Rattle.operation.specs.Rules.{one_of, statuses, behaviours}
 use Rattle.operation.specs.declared.Operation.{Operation}
-use Rattle.decoder.specs.Front.{front}
+use Rattle.std.proofs.Common.{Some, Ok}
+use Rattle.decoder.specs.Front.{sized, front}
 use Rattle.decoder.specs.Stream.{Item, operation, fault, items_of}
-use Rattle.decoder.specs.declared.Front.TheVariants.{Found}
 use Rattle.operation.specs.Kinds.{is_transmit}
 use Rattle.plain_bus.specs.Held.{Frame, Node, Bus, max_pending, queue_capacity, last_round, is_off, node_at}
 
 -- the bytes are those of one operation, which meets the content rules: else reading would not find it
 abbrev pub ReadsWhole : Operation → List ℕ → Type 0
-ReadsWhole op bytes = front bytes ≡ Found op (length bytes)
+ReadsWhole op bytes = front bytes ≡ Some (sized (Ok op) (length bytes))
 
 -- a pending frame is a Transmit and meets the content rules
 pub record ValidFrame (f : Frame) : Type 0 where

@@ -12,10 +12,11 @@ use lib.Seq.{length-take-le, take-length, drop-length, take-append-le, drop-appe
 use Rattle.operation.specs.Format.{length_of}
 use Rattle.operation.specs.declared.Operation.{Operation}
 use Rattle.operation.specs.declared.Operation.TheVariants.{FormatError, CanTransmit, FdTransmit, XlTransmit, Confirm, ArbitrationLost, BusError, Configuration, Status, Wakeup}
-use Rattle.decoder.specs.Front.{front}
+use Rattle.std.proofs.Common.{Option, None, Some, Result, Ok, Err}
+use Rattle.decoder.specs.Front.{sized, front}
 use Rattle.decoder.specs.Stream.{Item, operation, fault, items_of}
 use Rattle.decoder.specs.declared.Front.{Front}
-use Rattle.decoder.specs.declared.Front.TheVariants.{End, Fault, Found}
+use Rattle.decoder.specs.declared.Fault.{Fault}
 use Rattle.operation.specs.Kinds.{id_of}
 use Rattle.plain_bus.specs.Closing.{closes}
 use Rattle.plain_bus.proofs.ValidBus.{ReadsWhole, no_fault, Whole}
@@ -26,17 +27,20 @@ use Rattle.decoder.proofs.Streams.{front-nil, onward, end_empty, unroll}
 -- ---- induction along the reading
 
 module _ (P : List ℕ → Type 0) (none : P [])
-    (faulty : (number n : ℕ) (s : List ℕ) → front s ≡ Fault number n → P (drop n s) → P s)
-    (finds : (op : Operation) (n : ℕ) (s : List ℕ) → front s ≡ Found op n → P (drop n s) → P s) where
+    (faulty : (f : Fault) (n : ℕ) (s : List ℕ) → front s ≡ Some (sized (Err f) n) → P (drop n s) → P s)
+    (finds : (op : Operation) (n : ℕ) (s : List ℕ) → front s ≡ Some (sized (Ok op) n) → P (drop n s) → P s) where
   up_to : (k : ℕ) (s : List ℕ) → length s ≤ k → P s
   up_to zero [] h = none
   up_to zero (x ∷ s) h = absurd (omega arith)
   up_to (suc k) s h = go (front s) refl (λ n m. up_to k (drop n s) (simp length-drop (omega arith)))
     where
-      go : (f : Front) → front s ≡ f → ((n : ℕ) → 1 ≤ n → P (drop n s)) → P s
-      go End e r = subst P (sym (end_empty s e)) none
-      go (Fault number n) e r = faulty number n s e (r n (onward s e).0)
-      go (Found op n) e r = finds op n s e (r n (onward s e).0)
+      by_item : (i : Result Operation Fault) (n : ℕ) → front s ≡ Some (sized i n) → P (drop n s) → P s
+      by_item (Ok op) n e r = finds op n s e r
+      by_item (Err f) n e r = faulty f n s e r
+
+      go : (f : Option Front) → front s ≡ f → ((n : ℕ) → 1 ≤ n → P (drop n s)) → P s
+      go None e r = subst P (sym (end_empty s e)) none
+      go (Some f) e r = by_item f.item f.size e (r f.size (onward s e).0)
 
   pub along : (s : List ℕ) → P s
   along s = up_to (length s) s (le_refl (length s))
@@ -47,8 +51,8 @@ pub items-nil : items_of [] ≡ []
 items-nil = unroll [] front-nil
 
 -- an operation at the front stands there whatever follows
-front-append : {op : Operation} {n : ℕ} (s t : List ℕ) → front s ≡ Found op n
-    → (front (s ++ t) ≡ Found op n) × (take n (s ++ t) ≡ take n s) × (drop n (s ++ t) ≡ drop n s ++ t)
+front-append : {op : Operation} {n : ℕ} (s t : List ℕ) → front s ≡ Some (sized (Ok op) n)
+    → (front (s ++ t) ≡ Some (sized (Ok op) n)) × (take n (s ++ t) ≡ take n s) × (drop n (s ++ t) ≡ drop n s ++ t)
 front-append {op} {n} s t e =
     let h : n ≤ length s = (found e).within in (
       ap front (ap (λ l. l ++ t) (sym (take-append-drop n s)) ∙ append_assoc (take n s) (drop n s) t)
@@ -57,14 +61,14 @@ front-append {op} {n} s t e =
       drop-append-le n s t h,
     )
 
-no_fault-cut : {P : Type 0} {number n : ℕ} (s : List ℕ) → front s ≡ Fault number n → Whole s → P
+no_fault-cut : {P : Type 0} {f : Fault} {n : ℕ} (s : List ℕ) → front s ≡ Some (sized (Err f) n) → Whole s → P
 unfolding no_fault
-no_fault-cut {P} {number} {n} s e w =
-    let f : false ≡ true = sym (ap no_fault (unroll s e)) ∙ w in
+no_fault-cut {P} {f} {n} s e w =
+    let t : false ≡ true = sym (ap no_fault (unroll s e)) ∙ w in
     let z : ◌≡◌ {A = ℕ} 0 1 = cc in
     absurd (omega arith)
 
-whole_rest : {op : Operation} {n : ℕ} (s : List ℕ) → front s ≡ Found op n → Whole s → Whole (drop n s)
+whole_rest : {op : Operation} {n : ℕ} (s : List ℕ) → front s ≡ Some (sized (Ok op) n) → Whole s → Whole (drop n s)
 unfolding no_fault
 whole_rest s e w = sym (ap no_fault (unroll s e)) ∙ w
 
@@ -74,12 +78,12 @@ items-append s t = along (λ s. Whole s → items_of (s ++ t) ≡ items_of s ++ 
     none : Whole [] → items_of t ≡ items_of [] ++ items_of t
     none w = rw items-nil
 
-    faulty : (number n : ℕ) (s : List ℕ) → front s ≡ Fault number n
+    faulty : (f : Fault) (n : ℕ) (s : List ℕ) → front s ≡ Some (sized (Err f) n)
         → (Whole (drop n s) → items_of (drop n s ++ t) ≡ items_of (drop n s) ++ items_of t)
         → Whole s → items_of (s ++ t) ≡ items_of s ++ items_of t
-    faulty number n s e r w = no_fault-cut s e w
+    faulty f n s e r w = no_fault-cut s e w
 
-    finds : (op : Operation) (n : ℕ) (s : List ℕ) → front s ≡ Found op n
+    finds : (op : Operation) (n : ℕ) (s : List ℕ) → front s ≡ Some (sized (Ok op) n)
         → (Whole (drop n s) → items_of (drop n s ++ t) ≡ items_of (drop n s) ++ items_of t)
         → Whole s → items_of (s ++ t) ≡ items_of s ++ items_of t
     finds op n s e r w =
@@ -120,10 +124,10 @@ ValidItems (i ∷ is) = ValidItem i × ValidItems is
 -- each operation of a buffer is what its own bytes read as
 pub items-valid : (s : List ℕ) → ValidItems (items_of s)
 items-valid s = along (λ s. ValidItems (items_of s)) (rw items-nil tt)
-    (λ number n s e r. rw (unroll s e) (tt, r))
+    (λ f n s e r. rw (unroll s e) (tt, r))
     (λ op n s e r. rw (unroll s e) (one s e, r)) s
   where
-    one : {op : Operation} {n : ℕ} (s : List ℕ) → front s ≡ Found op n → front (take n s) ≡ Found op (length (take n s))
+    one : {op : Operation} {n : ℕ} (s : List ℕ) → front s ≡ Some (sized (Ok op) n) → front (take n s) ≡ Some (sized (Ok op) (length (take n s)))
     one {op} {n} s e =
         rw (length-take-le n s (found e).within) (ap front (sym (append-nil (take n s))) ∙ found_prefix s [] e)
 
@@ -157,11 +161,11 @@ closing_long Wakeup e = let z : ◌≡◌ {A = ℕ} 0 1 = cc in absurd (omega ar
 pub closings-short : (s : List ℕ) → 12 * length (closing_ids (items_of s)) ≤ length s
 unfolding closing_ids
 closings-short s = along (λ s. 12 * length (closing_ids (items_of s)) ≤ length s) (rw items-nil (omega arith))
-    (λ number n s e r. rw (unroll s e) (omega (arith, length-drop n s, r)))
+    (λ f n s e r. rw (unroll s e) (omega (arith, length-drop n s, r)))
     (λ op n s e r. rw (unroll s e) (go op n s e (closes op) refl r)) s
   where
-    go : (op : Operation) (n : ℕ) (s : List ℕ) → front s ≡ Found op n → (t : Bool) → closes op ≡ t
+    go : (op : Operation) (n : ℕ) (s : List ℕ) → front s ≡ Some (sized (Ok op) n) → (t : Bool) → closes op ≡ t
         → 12 * length (closing_ids (items_of (drop n s))) ≤ length (drop n s)
         → 12 * length (cond t (id_of op ∷ closing_ids (items_of (drop n s))) (closing_ids (items_of (drop n s)))) ≤ length s
-    go op n s e true c r = omega (arith, length-drop n s, (found e).within, (found e).sized, closing_long op c)
+    go op n s e true c r = omega (arith, length-drop n s, (found e).within, (found e).exact, closing_long op c)
     go op n s e false c r = omega (arith, length-drop n s)

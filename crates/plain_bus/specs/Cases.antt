@@ -1,12 +1,12 @@
 -- Examples. A second table: rules that are easy to get wrong, and the easy errors that 01 names, each as a short session.
 -- Assumes nothing.
-use Rattle.std.specs.Prelude.{ℕ, ◌-◌, ◌≡◌, List, [], ◌∷◌, ◌++◌, true, false, replicate}
+use Rattle.std.specs.Prelude.{ℕ, ◌-◌, ◌≡◌, List, [], ◌∷◌, ◌++◌, true, false, replicate, None, Some, Ok, Err}
 use Rattle.operation.specs.Format.{encode}
 use Rattle.operation.specs.declared.Operation.TheVariants.{FormatError, CanTransmit, FdTransmit, XlTransmit, Confirm, ArbitrationLost, BusError, Configuration, Status, Wakeup}
-use Rattle.decoder.specs.Reading.{cursor_at}
+use Rattle.decoder.specs.Front.{sized}
+use Rattle.decoder.specs.Reading.{ending}
 use Rattle.decoder.specs.Stream.{operation, fault}
-use Rattle.decoder.specs.declared.Front.TheVariants.{Fault}
-use Rattle.decoder.specs.declared.Reading.TheVariants.{AtEnd, Faulty, Read}
+use Rattle.decoder.specs.declared.Fault.TheVariants.{TooFewLeft}
 use Rattle.plain_bus.specs.Held.{Bus, last_round, new_node, with_pending, with_queue}
 use Rattle.plain_bus.specs.Refusal.{not_attached, buffer_too_long, bad_injection, four_pending, queue_full, rounds_used_up, room_too_small}
 use Rattle.plain_bus.specs.Round.{no_error, injected, injection_from}
@@ -273,9 +273,9 @@ cases =
     ∷ operation (XlTransmit 17 0 1 3 4 0x08070605 2) xl17 ∷ operation (FormatError 3) w4 ∷ operation (FdTransmit 19 1 0 1 0) fd19
     ∷ operation (XlTransmit 20 1 0 3 4 0x08070605 1) xl20 ∷ operation (Configuration 1 250_000) rate250000 ∷ [])
     -- reading at a position gives the position after it; past the end there is nothing
-    ∷ read_from (w2 ++ w1 ++ fault1) 12 gives reads (Read (CanTransmit 15 0 0 2) (cursor_at 30))
-    ∷ read_from (w2 ++ w1 ++ fault1) 30 gives reads (Faulty 1 (cursor_at 37))
-    ∷ read_from (w2 ++ w1 ++ fault1) 37 gives reads AtEnd
+    ∷ read_from (w2 ++ w1 ++ fault1) 12 gives reads (Some (ending (Ok (CanTransmit 15 0 0 2)) 30))
+    ∷ read_from (w2 ++ w1 ++ fault1) 30 gives reads (Some (ending (Err TooFewLeft) 37))
+    ∷ read_from (w2 ++ w1 ++ fault1) 37 gives reads None
     -- the data end where the operation does, which has to lie in the buffer
     ∷ data_of (w2 ++ w1 ++ w2) (CanTransmit 15 0 0 2) 30 gives bytes (0xAA ∷ 0xBB ∷ [])
     ∷ data_of w1 (CanTransmit 15 0 0 2) 18 gives bytes (0xAA ∷ 0xBB ∷ [])
@@ -287,7 +287,7 @@ cases =
     ∷ items_in (fault3 ++ fault4 ++ of_kind 0 ++ of_kind 5 ++ fault5 ++ fault2 ++ w1)
     gives items
     (fault 3 fault3 ∷ fault 4 fault4 ∷ fault 4 (of_kind 0) ∷ fault 4 (of_kind 5) ∷ fault 5 fault5 ∷ fault 2 (fault2 ++ w1) ∷ [])
-    ∷ front_of fault1 gives stands (Fault 1 7)
+    ∷ front_of fault1 gives stands (Some (sized (Err TooFewLeft) 7))
     -- a remote frame has no data field: with data it is fault 5, also where Rtr 2 breaks a rule of its own, and with another length
     -- than that of the table fault 4
     ∷ items_in (remote0 ++ remote1 ++ remote8 ++ classic 2 16 0 [] ++ classic 1 23 8 (1 ∷ 2 ∷ 3 ∷ 4 ∷ 5 ∷ 6 ∷ 7 ∷ []))

@@ -1,16 +1,16 @@
 -- Examples. W1 to W10 as one table, and the statement about it (01, "Sessions to check by hand").
 -- Assumes nothing.
-use Rattle.std.specs.Prelude.{ℕ, ◌≡◌, List, [], ◌∷◌, ◌++◌, map, Bool, true, false, length}
+use Rattle.std.specs.Prelude.{ℕ, ◌≡◌, List, [], ◌∷◌, ◌++◌, map, Bool, true, false, length, Option, Some, Err}
 use Rattle.operation.specs.Format.{encode}
 use Rattle.operation.specs.Rules.{legal}
 use Rattle.operation.specs.declared.Operation.{Operation}
 use Rattle.operation.specs.declared.Operation.TheVariants.{CanTransmit, FdTransmit, XlTransmit, Confirm, ArbitrationLost, Configuration}
-use Rattle.decoder.specs.Front.{front}
+use Rattle.decoder.specs.Front.{sized, front}
 use Rattle.decoder.specs.Reading.{read_at, data_at}
 use Rattle.decoder.specs.Stream.{Item, items_of}
 use Rattle.decoder.specs.declared.Reading.{Reading}
 use Rattle.decoder.specs.declared.Front.{Front}
-use Rattle.decoder.specs.declared.Front.TheVariants.{Fault}
+use Rattle.decoder.specs.declared.Fault.TheVariants.{BadLength}
 use Rattle.plain_bus.specs.Held.{Node, Bus}
 use Rattle.plain_bus.specs.Refusal.{four_pending}
 use Rattle.plain_bus.specs.Round.{no_error}
@@ -40,9 +40,9 @@ pub data Question : Type 0 where
 pub data Reply : Type 0 where
   bytes : List ℕ → Reply
   truth : Bool → Reply
-  stands : Front → Reply
+  stands : Option Front → Reply
   items : List Item → Reply
-  reads : Reading → Reply
+  reads : Option Reading → Reply
   ends : List Answer → List ℕ → List (List ℕ) → Reply
   numbers : List ℕ → Reply
   settings : ℕ → List (List ℕ) → Reply
@@ -154,8 +154,8 @@ table =
     ∷ is_legal (XlTransmit 1 0 0 0 0 0 0) gives truth false
     ∷ is_legal (XlTransmit 1 0 0 0 0 0 2_049) gives truth false
     ∷ is_legal (XlTransmit 1 0 0 0 0 0 2_048) gives truth true
-    ∷ front_of (twelve 7) gives stands (Fault 2 12)
-    ∷ front_of (twelve 13) gives stands (Fault 2 12)
+    ∷ front_of (twelve 7) gives stands (Some (sized (Err BadLength) 12))
+    ∷ front_of (twelve 13) gives stands (Some (sized (Err BadLength) 12))
     ∷ []
 
 -- the one statement: the definitions compute what 01 prints

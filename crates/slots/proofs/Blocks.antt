@@ -1,11 +1,12 @@
--- Laws of four slots laid over a list: one of them changed, and none.
+-- Laws of four slots laid over a list: one of them changed, none, and all copied.
 -- Assumes nothing.
-use mathlib.Core.Path.{◌≡◌, sym}
+use mathlib.Core.Path.{◌≡◌, refl, sym, ap}
 use mathlib.Core.List.{List, [], ◌∷◌}
-use Prim.Native.Nat.{ℕ, zero, suc, ◌+◌, ◌<◌}
+use Prim.Native.Nat.{ℕ, zero, suc, ◌+◌, ◌≤◌, ◌<◌}
 use native.Mathlib.Nat.{add-zero}
 use native.Mathlib.Omega.{arith}
 use lib.ListN.{length, get_or, set}
+use borrow.Rule.Slice.PartMut.{put_mid}
 use lib.Seq.{set-set, set_comm, set-get_or}
 use Rattle.slots.specs.Slots.{free_slot}
 use Rattle.slots.specs.Blocks.{set_block}
@@ -49,3 +50,25 @@ pub same_block : (l : List Slot) (at : ℕ)
 unfolding set_block
 same_block l at =
     rw (set-get_or l at free_slot, set-get_or l (at + 1) free_slot, set-get_or l (at + 2) free_slot, set-get_or l (at + 3) free_slot)
+
+-- four that are copied into the place of four are laid over the list
+copied : (l : List Slot) (at : ℕ) (b : List Slot) → length b ≡ 4 → at + 4 ≤ length l → put_mid at 4 l b ≡ set_block l at b
+unfolding set_block
+copied [] at b f h = absurd (omega arith)
+copied (x ∷ l) (suc at) b f h =
+    let e : suc at + 1 ≡ suc (at + 1) = omega arith in
+    let g : suc at + 2 ≡ suc (at + 2) = omega arith in
+    let k : suc at + 3 ≡ suc (at + 3) = omega arith in
+    rw (e, g, k) (ap (λ (t : List Slot). x ∷ t) (copied l at b f (omega arith)))
+copied l zero [] f h = absurd (omega arith)
+copied l zero (w ∷ []) f h = absurd (omega arith)
+copied l zero (w ∷ x ∷ []) f h = absurd (omega arith)
+copied l zero (w ∷ x ∷ y ∷ []) f h = absurd (omega arith)
+copied (o ∷ []) zero (w ∷ x ∷ y ∷ z ∷ b) f h = absurd (omega arith)
+copied (o ∷ p ∷ []) zero (w ∷ x ∷ y ∷ z ∷ b) f h = absurd (omega arith)
+copied (o ∷ p ∷ q ∷ []) zero (w ∷ x ∷ y ∷ z ∷ b) f h = absurd (omega arith)
+copied (o ∷ p ∷ q ∷ r ∷ l) zero (w ∷ x ∷ y ∷ z ∷ []) f h = refl
+copied (o ∷ p ∷ q ∷ r ∷ l) zero (w ∷ x ∷ y ∷ z ∷ v ∷ b) f h = absurd (omega arith)
+
+pub copied_block : (l : List Slot) (at k : ℕ) (b : List Slot) → k ≡ 4 → length b ≡ 4 → at + 4 ≤ length l → put_mid at k l b ≡ set_block l at b
+copied_block l at k b e f h = rw e (copied l at b f h)

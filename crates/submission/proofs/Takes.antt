@@ -15,10 +15,11 @@ use Rattle.operation.specs.Kinds.{is_transmit}
 use Rattle.operation.specs.declared.Operation.{Operation}
 use Rattle.operation.specs.declared.Operation.TheVariants.{FormatError, CanTransmit, FdTransmit, XlTransmit, Confirm, ArbitrationLost, BusError, Configuration, Status, Wakeup}
 use Rattle.operation.proofs.Sizes.{transmit-short}
-use Rattle.decoder.specs.Front.{front}
+use Rattle.std.proofs.Common.{Some, Ok, Err}
+use Rattle.decoder.specs.Front.{sized, front, fault_number}
 use Rattle.decoder.specs.Reading.{data_at}
 use Rattle.decoder.specs.Stream.{operation, fault}
-use Rattle.decoder.specs.declared.Front.TheVariants.{Fault, Found}
+use Rattle.decoder.specs.declared.Fault.{Fault}
 use Rattle.decoder.proofs.Found.{found}
 use Rattle.decoder.proofs.Payload.{data_found}
 use Rattle.decoder.proofs.Items.{Spans}
@@ -68,16 +69,16 @@ only_transmit (Configuration kind value) op e = go (eqb kind 4) e
 only_transmit (Status status) op e = let z : ◌≡◌ {A = ℕ} 0 1 = cc in absurd (omega arith)
 only_transmit Wakeup op e = let z : ◌≡◌ {A = ℕ} 0 1 = cc in absurd (omega arith)
 
-data_fit : (s : List ℕ) (at end : ℕ) (o : Operation) → at < end → front (drop at s) ≡ Found o (end - at) → DataFit (operation_effect o) s at end
+data_fit : (s : List ℕ) (at end : ℕ) (o : Operation) → at < end → front (drop at s) ≡ Some (sized (Ok o) (end - at)) → DataFit (operation_effect o) s at end
 data_fit s at end o h e op q =
     let t = only_transmit o op q in
-    let e' : front (drop at s) ≡ Found op (end - at) = e ∙ ap (λ (x : Operation). Found x (end - at)) t.0 in
+    let e' : front (drop at s) ≡ Some (sized (Ok op) (end - at)) = e ∙ ap (λ (x : Operation). Some (sized (Ok x) (end - at))) t.0 in
     let f = found e' in
     let p : at + (end - at) ≡ end = omega arith in
     let d : data_at s op end ≡ drop (head_length op) (take (end - at) (drop at s)) = rw p at (data_found s at op (end - at) e') in
     let short = transmit-short op t.1 f.lawful in
     let l : length (take (end - at) (drop at s)) ≡ end - at = length-take-le (end - at) (drop at s) f.within in
-    (d, rw (d, length-drop) (omega (arith, f.sized)))
+    (d, rw (d, length-drop) (omega (arith, f.exact)))
 
 -- ---- the step
 
@@ -85,7 +86,7 @@ module _ (s : List ℕ) (at : ℕ) (r : Step) where
   abbrev bytes : List ℕ
   bytes = take (r.end - at) (drop at s)
 
-  pub fault-taken : {number : ℕ} → Spans s at r.end (Fault number (r.end - at)) (fault number bytes) → r.effect ≡ fault_effect bytes → Taken s at r
+  pub fault-taken : {f : Fault} → Spans s at r.end (sized (Err f) (r.end - at)) (fault (fault_number f) bytes) → r.effect ≡ fault_effect bytes → Taken s at r
   unfolding fault_effect
   fault-taken n f = record {
     item = _;
@@ -106,7 +107,7 @@ module _ (s : List ℕ) (at : ℕ) (r : Step) where
       never op true e = let z : ◌≡◌ {A = ℕ} 0 1 = cc in absurd (omega arith)
       never op false e = let z : ◌≡◌ {A = ℕ} 0 1 = cc in absurd (omega arith)
 
-  pub operation-taken : {op : Operation} → Spans s at r.end (Found op (r.end - at)) (operation op bytes) → r.effect ≡ operation_effect op → Taken s at r
+  pub operation-taken : {op : Operation} → Spans s at r.end (sized (Ok op) (r.end - at)) (operation op bytes) → r.effect ≡ operation_effect op → Taken s at r
   operation-taken {op} n f = record {
     item = _;
     items = n.items;

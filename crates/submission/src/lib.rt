@@ -112,20 +112,13 @@ fn fault_effect(bytes: &[u8]) -> Effect
 fn step_at(buffer: &[u8], at: usize) -> Option<Step>
     ensures { NextIs buffer.now at result }
 {
-    let cursor = Cursor { at };
-    match cursor.read(buffer) {
-        Reading::AtEnd => None,
-        Reading::Faulty { number: _, next } => {
-            let end = next.at;
-            let effect = fault_effect(&buffer[at..end]);
-            Some(Step { effect, end })
-        }
-        Reading::Read { op, next } => {
-            let effect = operation_effect(op);
-            let end = next.at;
-            Some(Step { effect, end })
-        }
-    }
+    let Reading { item, next } = (Cursor { at }).read(buffer)?;
+    let end = next.at;
+    let effect = match item {
+        Ok(op) => operation_effect(op),
+        Err(_) => fault_effect(&buffer[at..end]),
+    };
+    Some(Step { effect, end })
 }
 
 // ---- Wakeups of node k, on the entries of all nodes

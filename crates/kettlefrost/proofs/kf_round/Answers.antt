@@ -3,7 +3,7 @@ use Rattle.bus_state.specs.Memory.{held}
 use Rattle.kettlefrost.proofs.Answered.{wrong_round}
 use Rattle.kettlefrost.proofs.kf_round.Goals as goal
 
-pub returns-then-slots-ne-SLOTS : goal.returns-then-slots-ne-SLOTS
-returns-then-slots-ne-SLOTS c =
+pub returns-in_default : goal.returns-in_default
+returns-in_default c =
     let m = held c.args.state c.args.slots.now c.args.payload.now c.args.queues.now in
-    rw (c.wrong_memory.ensures, wrong_round m c.if-slots-ne-SLOTS.true)
+    rw (c.wrong_memory.ensures, wrong_round m c.in_default.ensures.1)

@@ -4,7 +4,7 @@ use Rattle.bus_model.specs.Primitives.{new_state}
 use Rattle.kettlefrost.proofs.Answered.{wrong_start}
 use Rattle.kettlefrost.proofs.kf_start.Goals as goal
 
-pub returns-then-slots-ne-SLOTS : goal.returns-then-slots-ne-SLOTS
-returns-then-slots-ne-SLOTS c =
+pub returns-in_default : goal.returns-in_default
+returns-in_default c =
     let m = held (new_state 0) c.args.slots.now c.args.payload.now c.args.queues.now in
-    rw (c.no_start.ensures, wrong_start m c.if-slots-ne-SLOTS.true)
+    rw (c.no_start.ensures, wrong_start m c.in_default.ensures.1)

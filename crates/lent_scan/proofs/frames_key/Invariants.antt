@@ -4,7 +4,4 @@ use Rattle.scan.specs.Scan.{steps_of, begun}
 use Rattle.lent_scan.proofs.frames_key.Given as goal
 
 abbrev pub invariant-loop-p : goal.invariant-loop-p
-invariant-loop-p l = steps_of (l.end - l.p) l.p l.j l.slots l.run ≡ steps_of l.n (4 * l.j) l.j l.slots (begun l.key)
-
-abbrev pub decreases-loop-p : goal.decreases-loop-p
-decreases-loop-p l = l.end - l.p
+invariant-loop-p l = steps_of (l.p-end - l.p) l.p l.j l.slots l.run ≡ steps_of l.n (4 * l.j) l.j l.slots (begun l.key)

@@ -4,7 +4,4 @@ use Rattle.scan.specs.Scan.{nodes_key, scanned}
 use Rattle.lent_scan.proofs.scan.Given as goal
 
 abbrev pub invariant-loop-j : goal.invariant-loop-j
-invariant-loop-j l = nodes_key (l.count - l.j) l.j l.fn.s l.slots l.key ≡ scanned l.fn.s l.slots
-
-abbrev pub decreases-loop-j : goal.decreases-loop-j
-decreases-loop-j l = l.count - l.j
+invariant-loop-j l = nodes_key (l.j-end - l.j) l.j l.fn.s l.slots l.key ≡ scanned l.fn.s l.slots

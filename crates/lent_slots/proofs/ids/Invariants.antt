@@ -1,14 +1,10 @@
 -- The first p of the answer are the IDs of the first p slots.
-use Rattle.std.proofs.Common.{◌-◌, ◌≡◌, map, ◌≤◌, take, length}
+use Rattle.std.proofs.Common.{◌≡◌, map, take, length}
 use Rattle.slots.specs.declared.Slot.{Slot}
 use Rattle.lent_slots.proofs.ids.Given as goal
 
 abbrev pub invariant-loop-p : goal.invariant-loop-p
 invariant-loop-p l = record {
-  within : l.p ≤ 32;
-  size : length l.a ≡ 32;
-  copied : take l.p l.a ≡ map (λ (x : Slot). x.id) (take l.p l.slots);
+  size : length l.ids ≡ 32;
+  copied : take l.p l.ids ≡ map (λ (x : Slot). x.id) (take l.p l.slots);
 }
-
-abbrev pub decreases-loop-p : goal.decreases-loop-p
-decreases-loop-p l = 32 - l.p

@@ -1,27 +1,32 @@
--- At or past the end nothing remains; else what stands at the front of the rest, which stays within the buffer.
-use Rattle.decoder.proofs.Forward.{moves, reads}
+-- Past the end nothing remains; else what stands at the front of the rest, which stays within the buffer.
+use Rattle.decoder.proofs.Forward.{reads}
+use Rattle.decoder.proofs.Streams.{onward}
 use Rattle.decoder.specs.Front.{front}
 use Rattle.decoder.specs.Reading.{read_at}
-use lib.ListN.{drop_of_length-le}
-use mathlib.Core.Path.{sym, ◌∙◌}
+use lib.ListN.{length, drop_of_length-le}
+use Prim.Native.Nat.{◌≤◌}
+use mathlib.Core.Path.{sym, ap, ◌∙◌}
 use native.Mathlib.Omega.{arith}
 use Rattle.decoder.proofs.Cursor.read.Goals as goal
 
-pub returns-then-s-at : goal.returns-then-s-at
+pub returns-in_err-get : goal.returns-in_err-get
 unfolding read_at front
-returns-then-s-at c = rw (drop_of_length-le c.args.s.now c.if-s-at.true)
+returns-in_err-get c =
+    let a = c.args in
+    let h : length a.s.now ≤ a.self.at = omega (arith, c.in_err-get.ensures.lookup) in
+    rw (c.from_residual.ensures, drop_of_length-le a.s.now h)
 
-pub overflow_add-result : goal.overflow_add-result
-overflow_add-result c = let e = sym c.read_front.ensures ∙ c.in-Fault.is in omega (arith, moves c.args.s.now c.args.self.at e c.if-s-at.false)
+pub returns-in_err-front : goal.returns-in_err-front
+returns-in_err-front c =
+    let cut = c.in_ok-get.ensures.lookup.0.2 in
+    c.from_residual-in_err-front.ensures
+    ∙ reads c.args.s.now c.args.self.at (ap front (sym cut) ∙ sym c.read_front.ensures ∙ c.in_err-front.was)
 
-pub overflow_add-result-in-Found : goal.overflow_add-result-in-Found
-overflow_add-result-in-Found c = let e = sym c.read_front.ensures ∙ c.in-Found.is in omega (arith, moves c.args.s.now c.args.self.at e c.if-s-at.false)
+pub overflow_add-next : goal.overflow_add-next
+overflow_add-next c =
+    omega (arith, onward c.in_ok-get.field-0.now (sym c.read_front.ensures ∙ c.in_ok-front.was), c.in_ok-get.ensures.lookup)
 
-pub returns-in-End : goal.returns-in-End
-returns-in-End c = reads _ _ (sym c.read_front.ensures ∙ c.in-End.is)
-
-pub returns-in-Fault : goal.returns-in-Fault
-returns-in-Fault c = reads _ _ (sym c.read_front.ensures ∙ c.in-Fault.is)
-
-pub returns-in-Found : goal.returns-in-Found
-returns-in-Found c = reads _ _ (sym c.read_front.ensures ∙ c.in-Found.is)
+pub returns : goal.returns
+returns c =
+    let cut = c.in_ok-get.ensures.lookup.0.2 in
+    reads c.args.s.now c.args.self.at (ap front (sym cut) ∙ sym c.read_front.ensures ∙ c.in_ok-front.was)
