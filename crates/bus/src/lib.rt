@@ -18,15 +18,16 @@ ghost use Rattle.bus.specs.Given.{started_by, Scanned, Counted, Taken};
 ghost use Rattle.bus.specs.Tested.{lent_sizes, tested};
 
 use bus_state::{NodeState, PAYLOAD_BYTES, QUEUE_BYTES, State};
+use operation::{LostBehavior, NodeStatus};
 use outcome::{Answer, Change, Done, Outcome, Refusal};
 use slots::Slot;
 
 const SLOTS: usize = bus_state::SLOT_COUNT;
 
 // What a node starts with.
-const START_STATUS: u8 = operation::ERROR_ACTIVE;
+const START_STATUS: u8 = NodeStatus::ErrorActive as u8;
 
-const START_BEHAVIOUR: u8 = operation::BUFFER_AND_RETRANSMIT as u8;
+const START_BEHAVIOUR: u8 = LostBehavior::BufferAndRetransmit as u8;
 
 const START_CAN_RATE: u32 = 500_000;
 
