@@ -5,7 +5,8 @@ usage: tests/interface/layout.py
 
 Structs: the field types that the compiler has for kettlefrost, from the code of its library that a
 program or an archive is linked from, under the names that the source has for them, laid out as C
-does. Constants: those of the source. The library has to be built, as rt lib does.
+does. Constants: those of the source, and the cases of operation's tables. The library has to be
+built, as rt lib does.
 """
 import json
 import pathlib
@@ -26,7 +27,6 @@ STRUCTS = {
 PUBLIC = ["operation", "bus_state", "open_frames"]
 NAMED = {
     "bus_state::SLOT_COUNT": "SLOTS", "bus_state::MAX_PENDING": "SLOTS_PER_NODE",
-    "bus::PAYLOAD_BYTES": "PAYLOAD_BYTES", "bus::QUEUE_BYTES": "QUEUE_BYTES",
     "operation::MAX_EXTENDED_ID": "MAX_ID", "arbitration::LAST_ROUND": "MAX_ROUND",
     "submission::LONGEST_BUFFER": "MAX_SUBMIT",
 }
@@ -34,6 +34,12 @@ NAMED = {
 INNER = {"bus_state::BYTES_PER_SLOT", "operation::CONFIRM_LENGTH",
          "operation::ARBITRATION_LOST_LENGTH", "operation::BUS_ERROR_LENGTH",
          "operation::WAKEUP_LENGTH", "operation::FORMAT_ERROR_HEAD"}
+# The standard's tables in operation: how the header calls a case; and cases that it calls otherwise.
+TABLES = {"Code": "{}", "ErrorCode": "{}", "ErrorFlag": "{}_ERROR_FLAG", "ConfigurationKind": "{}",
+          "LostBehavior": "{}", "NodeStatus": "{}"}
+CASES = {"FdTransmit": "CAN_FD_TRANSMIT", "XlTransmit": "CAN_XL_TRANSMIT"}
+ENUM = re.compile(r"^pub enum (\w+) \{\n(.*?)^\}", re.M | re.S)
+CASE = re.compile(r"^    (\w+) = (\w+),$", re.M)
 STRUCT = re.compile(r"^pub struct (\w+) \{\n(.*?)^\}", re.M | re.S)
 FIELD = re.compile(r"^    pub (\w+):", re.M)
 CONSTANT = re.compile(r"^(pub )?const ([A-Z_]+): [a-z0-9]+ = ([0-9]+);", re.M)
@@ -105,5 +111,16 @@ def constants():
             fail(f"the source has no constant {full}")
 
 
+def table_cases():
+    enums = dict(ENUM.findall((ROOT / "crates/operation/src/lib.rt").read_text(encoding="utf-8")))
+    for table, form in TABLES.items():
+        cases = CASE.findall(enums.get(table, ""))
+        if not cases:
+            fail(f"no enum operation::{table}")
+        for case, number in cases:
+            name = CASES.get(case) or form.format(re.sub(r"(?<=[a-z])(?=[A-Z])", "_", case).upper())
+            yield f"CONSTANT(KF_{name}, {number}u);"
+
+
 print('#include "hold.h"')
-print("\n".join([*held(field_names(), field_types()), *constants()]))
+print("\n".join([*held(field_names(), field_types()), *constants(), *table_cases()]))

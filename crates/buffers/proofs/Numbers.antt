@@ -1,8 +1,7 @@
 -- The bytes of a number as the library gives them are those of the specification.
 -- Assumes nothing.
 use mathlib.Core.Path.{◌≡◌, refl}
-use mathlib.Core.List.{[], ◌∷◌}
-use Prim.Native.Nat.{ℕ, zero, suc, ◌+◌, ◌≤◌, ◌/◌, ◌%◌}
+use Prim.Native.Nat.{ℕ, zero, suc, ◌≤◌}
 use native.Mathlib.Nat as nat
 use native.Mathlib.Omega.{arith}
 use lib.ListN.{take}

@@ -11,7 +11,6 @@ use borrow.Author.Tests.{eqb-true, ltb-false}
 use Rattle.std.proofs.Common.{Option, None, Some, Err}
 use Rattle.decoder.specs.Front.{decode, stated_length, whole_length, sized, front}
 use Rattle.decoder.specs.declared.Fault.TheVariants.{TooFewLeft, BadLength}
-use Rattle.decoder.specs.declared.Front.{Front}
 
 -- an operation that is all there lies within, and is decoded; otherwise there is the end, or fault 1 or 2
 abbrev pub ByWhole : List ℕ → Option ℕ → Type 0

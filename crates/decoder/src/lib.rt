@@ -69,7 +69,12 @@ fn u32_at(t: &[u8], i: usize) -> u32
     requires { i + 3 < 2 ^ 64 }
     ensures { result ≡ number_at 4 t.now i }
 {
-    u32::from_le_bytes([byte_at(t, i), byte_at(t, i + 1), byte_at(t, i + 2), byte_at(t, i + 3)])
+    u32::from_le_bytes([
+        byte_at(t, i),
+        byte_at(t, i + 1),
+        byte_at(t, i + 2),
+        byte_at(t, i + 3),
+    ])
 }
 
 // The code that some bytes start with; bytes that are missing count as 0.
@@ -103,11 +108,7 @@ pub fn read_format_error(t: &[u8]) -> Result<Operation, Fault>
         return Err(Fault::WrongLength);
     }
     let n = u16_at(t, 8);
-    give_verdict(
-        size == 10 + n as usize,
-        true,
-        Operation::FormatError { n },
-    )
+    give_verdict(size == 10 + n as usize, true, Operation::FormatError { n })
 }
 
 pub fn read_can(t: &[u8]) -> Result<Operation, Fault>
@@ -339,9 +340,15 @@ pub fn read_front(s: &[u8]) -> Option<Front>
         return None;
     }
     if size < 8 {
-        return Some(Front { item: Err(Fault::TooFewLeft), size });
+        return Some(Front {
+            item: Err(Fault::TooFewLeft),
+            size,
+        });
     }
-    Some(Front { item: Err(Fault::BadLength), size })
+    Some(Front {
+        item: Err(Fault::BadLength),
+        size,
+    })
 }
 
 impl Cursor {
@@ -350,8 +357,13 @@ impl Cursor {
         ensures { result ≡ read_at s.now self.at }
     {
         let front = read_front(s.get(self.at..)?)?;
-        let next = Cursor { at: self.at + front.size };
-        Some(Reading { item: front.item, next })
+        let next = Cursor {
+            at: self.at + front.size,
+        };
+        Some(Reading {
+            item: front.item,
+            next,
+        })
     }
 }
 

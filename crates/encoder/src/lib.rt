@@ -8,7 +8,7 @@ ghost use Rattle.encoder.specs.Writing.{written_number, decision, write_outcome,
 ghost use Rattle.buffers.specs.Parts.{over};
 
 use buffers::{put, put_number};
-use operation::Operation;
+use operation::{Code, Operation};
 
 // Why an operation is not written: the number of each refusal.
 #[derive(Clone, Copy, Debug, PartialEq, Eq)]
@@ -67,7 +67,7 @@ pub fn write_format_error(n: u16, payload: &[u8], buffer: &mut [u8]) -> Result<u
     ensures written { buffer.new ≡ written_of (Operation.FormatError n) payload.now buffer.old }
 {
     let size = decide(true, 10, n, payload.len(), buffer.len())?;
-    put_start(buffer, 0x01, size as u32);
+    put_start(buffer, Code::FormatError as u32, size as u32);
     put_number::<2>(buffer, 8, u32::from(n));
     put(buffer, 10, payload);
     Ok(size)
@@ -86,7 +86,7 @@ pub fn write_can(
 {
     let lawful = operation::can_is_legal(id, ide, rtr, dl);
     let size = decide(lawful, 16, dl, payload.len(), buffer.len())?;
-    put_start(buffer, 0x10, size as u32);
+    put_start(buffer, Code::CanTransmit as u32, size as u32);
     put_number::<4>(buffer, 8, id);
     put(buffer, 12, &[ide, rtr]);
     put_number::<2>(buffer, 14, u32::from(dl));
@@ -108,7 +108,7 @@ pub fn write_fd(
 {
     let lawful = operation::fd_is_legal(id, ide, brs, esi, dl);
     let size = decide(lawful, 17, dl, payload.len(), buffer.len())?;
-    put_start(buffer, 0x11, size as u32);
+    put_start(buffer, Code::FdTransmit as u32, size as u32);
     put_number::<4>(buffer, 8, id);
     put(buffer, 12, &[ide, brs, esi]);
     put_number::<2>(buffer, 15, u32::from(dl));
@@ -132,7 +132,7 @@ pub fn write_xl(
 {
     let lawful = operation::xl_is_legal(id, ide, sec, sdt, vcid, af, dl);
     let size = decide(lawful, 22, dl, payload.len(), buffer.len())?;
-    put_start(buffer, 0x12, size as u32);
+    put_start(buffer, Code::XlTransmit as u32, size as u32);
     put_number::<4>(buffer, 8, id);
     put(buffer, 12, &[ide, sec, sdt, vcid]);
     put_number::<4>(buffer, 16, af);
@@ -162,7 +162,7 @@ pub fn write_confirm(id: u32, payload: &[u8], buffer: &mut [u8]) -> Result<usize
     ensures answer { result ≡ write_outcome (Operation.Confirm id) (length payload.now) (length buffer.old) }
     ensures written { buffer.new ≡ written_of (Operation.Confirm id) payload.now buffer.old }
 {
-    write_id(0x20, id, payload, buffer)
+    write_id(Code::Confirm as u32, id, payload, buffer)
 }
 
 pub fn write_arbitration_lost(
@@ -173,7 +173,7 @@ pub fn write_arbitration_lost(
     ensures answer { result ≡ write_outcome (Operation.ArbitrationLost id) (length payload.now) (length buffer.old) }
     ensures written { buffer.new ≡ written_of (Operation.ArbitrationLost id) payload.now buffer.old }
 {
-    write_id(0x30, id, payload, buffer)
+    write_id(Code::ArbitrationLost as u32, id, payload, buffer)
 }
 
 pub fn write_bus_error(
@@ -189,7 +189,7 @@ pub fn write_bus_error(
 {
     let lawful = operation::bus_error_is_legal(id, code, flag, sender);
     let size = decide(lawful, 15, 0, payload.len(), buffer.len())?;
-    put_start(buffer, 0x31, size as u32);
+    put_start(buffer, Code::BusError as u32, size as u32);
     put_number::<4>(buffer, 8, id);
     put(buffer, 12, &[code, flag, sender]);
     Ok(size)
@@ -201,7 +201,7 @@ pub fn write_status(status: u8, payload: &[u8], buffer: &mut [u8]) -> Result<usi
 {
     let lawful = operation::status_is_legal(status);
     let size = decide(lawful, 9, 0, payload.len(), buffer.len())?;
-    put_start(buffer, 0x41, size as u32);
+    put_start(buffer, Code::Status as u32, size as u32);
     put(buffer, 8, &[status]);
     Ok(size)
 }
@@ -218,7 +218,7 @@ pub fn write_configuration(
     let lawful = operation::configuration_is_legal(kind, value);
     let head = operation::configuration_length(kind);
     let size = decide(lawful, head, 0, payload.len(), buffer.len())?;
-    put_start(buffer, 0x40, size as u32);
+    put_start(buffer, Code::Configuration as u32, size as u32);
     put(buffer, 8, &[kind]);
     if kind == operation::ARBITRATION_LOST_BEHAVIOR {
         put_number::<1>(buffer, 9, value);
@@ -233,7 +233,7 @@ pub fn write_wakeup(payload: &[u8], buffer: &mut [u8]) -> Result<usize, WriteErr
     ensures written { buffer.new ≡ written_of Operation.Wakeup payload.now buffer.old }
 {
     let size = decide(true, 8, 0, payload.len(), buffer.len())?;
-    put_start(buffer, 0x42, size as u32);
+    put_start(buffer, Code::Wakeup as u32, size as u32);
     Ok(size)
 }
 

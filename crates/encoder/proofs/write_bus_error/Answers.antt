@@ -6,7 +6,6 @@ use Rattle.operation.specs.Format.{header}
 use Rattle.operation.specs.Number.{little_endian}
 use Rattle.operation.specs.declared.Operation.TheVariants.{BusError}
 use mathlib.Core.List.{[], ◌∷◌, ◌++◌}
-use Prim.Native.Nat.{◌+◌}
 use mathlib.Core.Path.{◌≡◌, refl}
 use Rattle.encoder.proofs.write_bus_error.Goals as goal
 

@@ -7,8 +7,7 @@ use Rattle.operation.specs.Number.{little_endian}
 use Rattle.operation.specs.declared.Operation.TheVariants.{Configuration}
 use borrow.Author.Tests.{ne_eqb}
 use mathlib.Core.List.{[], ◌∷◌, ◌++◌}
-use mathlib.Core.Path.{◌≡◌, refl, ◌∙◌}
-use Prim.Native.Nat.{ℕ}
+use mathlib.Core.Path.{◌≡◌, refl}
 use Rattle.encoder.proofs.write_configuration.Goals as goal
 
 pub returns-in_err-size : goal.returns-in_err-size

@@ -7,7 +7,7 @@ use Rattle.operation.specs.Number.{little_endian}
 use Rattle.operation.specs.declared.Operation.TheVariants.{XlTransmit}
 use mathlib.Core.List.{[], ◌∷◌, ◌++◌}
 use Prim.Native.Nat.{◌+◌}
-use mathlib.Core.Path.{◌≡◌, refl}
+use mathlib.Core.Path.{◌≡◌}
 use Rattle.encoder.proofs.write_xl.Goals as goal
 
 pub returns-in_err-size : goal.returns-in_err-size
