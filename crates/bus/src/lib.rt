@@ -203,7 +203,7 @@ pub fn collect(
     )
 }
 
-// For the public calls: an answer without the slots' part, and the parts of a start.
+// For the public calls: an answer without the slots' part.
 
 pub fn wrong_memory(s: State) -> Answer
     ensures { result ≡ answer_of (Err Refusal.WrongMemory) s }
@@ -215,17 +215,4 @@ pub fn no_start() -> Answer
     ensures { result ≡ answer_of (Err Refusal.WrongMemory) (new_state 0) }
 {
     outcome::answer_of(Err(Refusal::WrongMemory), new_state(0))
-}
-
-pub fn answer_started(c: Started) -> Answer
-    ensures { result ≡ answer_of c.outcome c.state }
-{
-    let outcome = c.outcome;
-    outcome::answer_of(outcome, c.state)
-}
-
-pub fn slots_started(c: Started) -> [Slot; 32]
-    ensures { result ≡ c.slots }
-{
-    c.slots
 }
