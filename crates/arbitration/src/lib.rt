@@ -11,7 +11,7 @@ ghost use Rattle.slots.specs.Slots.{content_of, held_in};
 ghost use Rattle.plain_bus.specs.Held.{last_round};
 ghost use Rattle.plain_bus.specs.Order.{wins};
 ghost use Rattle.plain_bus.specs.Round.{injection_from};
-ghost use Rattle.bus_state.specs.Memory.{node_state, held, slot_count, slots_per_node, bytes_per_slot, bytes_per_queue, payload_bytes, queue_bytes, is_off};
+ghost use Rattle.bus_state.specs.Memory.{node_state, held, slot_count, slots_per_node, bytes_per_slot, bytes_per_queue, is_off};
 ghost use Rattle.bus_model.specs.Round.{pending_at};
 ghost use Rattle.bus_model.specs.Calls.{arbitrate_in, rounded};
 ghost use Rattle.outcome.specs.Ended.{ended_by, ended};
@@ -22,7 +22,7 @@ ghost use Rattle.arbitration.specs.Owed.{Writable, Frames, Tellable, PendingAt, 
 ghost use Rattle.arbitration.specs.After.{entry_after, state_after, queues_after, source, block_without, payload_without};
 ghost use Rattle.arbitration.specs.Round.{carried_out};
 
-use bus_state::{NodeState, State};
+use bus_state::{NodeState, PAYLOAD_BYTES, QUEUE_BYTES, State};
 use operation::Operation;
 use outcome::{Change, Done, Refusal};
 use scan::Winner;
@@ -97,8 +97,14 @@ fn block_without(four: [Slot; 4], position: usize, last: usize) -> [Slot; 4]
 }
 
 // The data of the frames behind a position of the four slots from a slot on, up to the last one's, move down by one slot.
-fn move_data(payload: &mut [u8], four: [Slot; 4], at: usize, position: usize, last: usize)
-    requires position_le_last { (position ≤ last) × (last < slots_per_node) × (at + slots_per_node ≤ slot_count) × (length payload.old ≡ payload_bytes) }
+fn move_data(
+    payload: &mut [u8; PAYLOAD_BYTES],
+    four: [Slot; 4],
+    at: usize,
+    position: usize,
+    last: usize,
+)
+    requires position_le_last { (position ≤ last) × (last < slots_per_node) × (at + slots_per_node ≤ slot_count) }
     requires frames { Frames four position (last + 1) }
     ensures { payload.new ≡ payload_without four at position (last - position) payload.old }
 {
@@ -314,9 +320,15 @@ impl<'a> News<'a> {
     }
 
     // Writes what every node is owed, and gives the state after the round; the winner stands at a position, and every slot's ID in ids.
-    fn tell_all(&self, s: State, position: usize, ids: &[u32; 32], queues: &mut [u8]) -> State
+    fn tell_all(
+        &self,
+        s: State,
+        position: usize,
+        ids: &[u32; 32],
+        queues: &mut [u8; QUEUE_BYTES],
+    ) -> State
         requires tellable { (s.round < last_round) × Tellable s ids.now × PendingAt s self.now.owner position }
-        requires room { (room_from self.now.error s.nodes self.now.owner self.now.size 0 s.count ≡ true) × (length queues.old ≡ queue_bytes) }
+        requires room { room_from self.now.error s.nodes self.now.owner self.now.size 0 s.count ≡ true }
         ensures value { result ≡ state_after self.now.error s self.now.owner self.now.size }
         ensures queues_after { queues.new ≡ queues_after self.now.error s.nodes self.now.owner position self.now.op ids.now self.now.bytes.now 0 s.count queues.old }
     {
@@ -351,14 +363,13 @@ fn arbitrate(
     s: State,
     four: [Slot; 4],
     ids: [u32; 32],
-    payload: &mut [u8],
-    queues: &mut [u8],
+    payload: &mut [u8; PAYLOAD_BYTES],
+    queues: &mut [u8; QUEUE_BYTES],
     e: Option<Injection>,
     won: Winner,
 ) -> Change
     requires drawn { (a : List Slot) × Drawn s a (Some won) four ids }
     requires e_value { has_legal_code e ≡ true }
-    requires payload_len { (length payload.old ≡ payload_bytes) × (length queues.old ≡ queue_bytes) }
     ensures queues_after { (a : List Slot) → Drawn s a (Some won) four ids → ended_by result a payload.new queues.new ≡ ended (arbitrate_in (held s a payload.old queues.old) (injection_of e) (wins (pending_at (held s a payload.old queues.old) won.owner won.position))) }
     ensures at_value { result.at ≡ slots_per_node * won.owner }
 {
@@ -381,20 +392,10 @@ fn arbitrate(
         error: e,
     };
     if !news.has_room(s) {
-        return Change {
-            outcome: Err(Refusal::QueueFull),
-            state: s,
-            at,
-            block: four,
-        };
+        return Change::refused(Refusal::QueueFull, s, at, four);
     }
     if LAST_ROUND <= s.round {
-        return Change {
-            outcome: Err(Refusal::RoundsUsedUp),
-            state: s,
-            at,
-            block: four,
-        };
+        return Change::refused(Refusal::RoundsUsedUp, s, at, four);
     }
     let state = news.tell_all(s, position, &ids, queues);
     let outcome = Done::Carried {
@@ -422,24 +423,18 @@ pub fn round(
     best: Option<Winner>,
     four: [Slot; 4],
     ids: [u32; 32],
-    payload: &mut [u8],
-    queues: &mut [u8],
+    payload: &mut [u8; PAYLOAD_BYTES],
+    queues: &mut [u8; QUEUE_BYTES],
     e: Option<Injection>,
 ) -> Change
     requires drawn { (a : List Slot) × Drawn s a best four ids }
-    requires payload_len { (length payload.old ≡ payload_bytes) × (length queues.old ≡ queue_bytes) }
     ensures queues_after { (a : List Slot) → Drawn s a best four ids → ended_by result a payload.new queues.new ≡ ended (rounded (held s a payload.old queues.old) (injection_of e)) }
     ensures at_value { result.at ≡ slots_per_node * owner_of best }
     ensures slots_per_node_bound { result.at + slots_per_node ≤ slot_count }
 {
     let at = first_slot(best);
     if is_wrong(s, e) {
-        return Change {
-            outcome: Err(Refusal::BadInjection),
-            state: s,
-            at,
-            block: four,
-        };
+        return Change::refused(Refusal::BadInjection, s, at, four);
     }
     let Some(won) = best else {
         return Change {

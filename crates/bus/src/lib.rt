@@ -18,15 +18,16 @@ ghost use Rattle.bus.specs.Given.{started_by, Scanned, Counted, Taken};
 ghost use Rattle.bus.specs.Tested.{lent_sizes, tested};
 
 use bus_state::{NodeState, PAYLOAD_BYTES, QUEUE_BYTES, State};
+use operation::{LostBehavior, NodeStatus};
 use outcome::{Answer, Change, Done, Outcome, Refusal};
 use slots::Slot;
 
 const SLOTS: usize = bus_state::SLOT_COUNT;
 
 // What a node starts with.
-const START_STATUS: u8 = operation::ERROR_ACTIVE;
+const START_STATUS: u8 = NodeStatus::ErrorActive as u8;
 
-const START_BEHAVIOUR: u8 = operation::BUFFER_AND_RETRANSMIT as u8;
+const START_BEHAVIOUR: u8 = LostBehavior::BufferAndRetransmit as u8;
 
 const START_CAN_RATE: u32 = 500_000;
 
@@ -202,7 +203,7 @@ pub fn collect(
     )
 }
 
-// For the public calls: an answer without the slots' part, and the parts of a start.
+// For the public calls: an answer without the slots' part.
 
 pub fn wrong_memory(s: State) -> Answer
     ensures { result ≡ answer_of (Err Refusal.WrongMemory) s }
@@ -214,17 +215,4 @@ pub fn no_start() -> Answer
     ensures { result ≡ answer_of (Err Refusal.WrongMemory) (new_state 0) }
 {
     outcome::answer_of(Err(Refusal::WrongMemory), new_state(0))
-}
-
-pub fn answer_started(c: Started) -> Answer
-    ensures { result ≡ answer_of c.outcome c.state }
-{
-    let outcome = c.outcome;
-    outcome::answer_of(outcome, c.state)
-}
-
-pub fn slots_started(c: Started) -> [Slot; 32]
-    ensures { result ≡ c.slots }
-{
-    c.slots
 }

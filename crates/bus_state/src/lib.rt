@@ -57,6 +57,7 @@ pub fn is_off(d: NodeState) -> bool
     d.status == NodeStatus::BusOff as u8
 }
 
+#[tactic(auto, using(crate::proofs::Tests::three))]
 fn are_non_zero(rates: [u32; 3]) -> bool
     ensures { result ≡ non_zero rates }
 {
@@ -64,6 +65,7 @@ fn are_non_zero(rates: [u32; 3]) -> bool
 }
 
 // The tests leave at the first that fails, which is quicker than joining them by and (docs/notes/00-base-speed.md).
+#[tactic(auto, unfolding(crate::specs::Valid::valid_entry))]
 pub fn entry_is_valid(d: NodeState) -> bool
     ensures { result ≡ valid_entry d }
 {
@@ -73,8 +75,7 @@ pub fn entry_is_valid(d: NodeState) -> bool
     if !operation::is_behaviour(d.behaviour as u32) {
         return false;
     }
-    let rates = d.rates;
-    if !are_non_zero(rates) {
+    if !are_non_zero(d.rates) {
         return false;
     }
     if QUEUE_CAPACITY < d.fill {
@@ -88,6 +89,7 @@ pub fn entry_is_valid(d: NodeState) -> bool
 
 // Whether a frame of this node may stand behind one that was accepted at round low. That its own round is not to come is asked of a
 // node's last frame alone (scan).
+#[tactic(auto, unfolding(crate::specs::Follows::slot_follows))]
 pub fn slot_follows(s: Slot, owner: u8, low: u32) -> bool
     ensures { result ≡ slot_follows owner low s }
 {
@@ -155,6 +157,7 @@ pub fn with_behaviour(mut d: NodeState, behaviour: u8) -> NodeState
 }
 
 // By constant indices, so that an entry stays in registers.
+#[tactic(auto, using(crate::proofs::Arrays::set_of_three))]
 pub fn with_rate(mut d: NodeState, i: usize, rate: u32) -> NodeState
     requires { i < 3 }
     ensures { result ≡ entry_rates d (set d.rates i rate) }

@@ -7,7 +7,7 @@ ghost use Rattle.operation.specs.Rules.{legal};
 ghost use Rattle.decoder.specs.Front.{fault_number, format_error, can, fd, xl, confirm, arbitration_lost, bus_error, configuration, status, wakeup, setting_of, shape_of, too_short, verdict, judge, decode, whole_length, front};
 ghost use Rattle.decoder.specs.Reading.{read_at, data_at};
 
-use operation::{Code, Operation};
+use operation::{Code, ConfigurationKind, Operation};
 
 // What is wrong with the bytes at a position.
 #[derive(Clone, Copy, Debug, PartialEq, Eq)]
@@ -241,13 +241,14 @@ pub fn read_bus_error(t: &[u8]) -> Result<Operation, Fault>
 fn setting_at(t: &[u8], kind: u8) -> u32
     ensures { result ≡ setting_of kind t.now }
 {
-    if kind == operation::ARBITRATION_LOST_BEHAVIOR {
+    if kind == ConfigurationKind::ArbitrationLostBehavior as u8 {
         u32::from(byte_at(t, 9))
     } else {
         u32_at(t, 9)
     }
 }
 
+#[tactic(auto, using(operation::proofs::Tables::configuration_kind_is_ok), unfolding(crate::specs::Front::shape_of, crate::specs::Front::verdict, crate::specs::Front::judge))]
 pub fn read_configuration(t: &[u8]) -> Result<Operation, Fault>
     ensures { result ≡ judge (length t.now) (shape_of configuration t.now) }
 {
@@ -259,7 +260,7 @@ pub fn read_configuration(t: &[u8]) -> Result<Operation, Fault>
     let value = setting_at(t, kind);
     let expected = operation::configuration_length(kind);
     let lawful = operation::configuration_is_legal(kind, value);
-    let known = (operation::CAN_BAUDRATE <= kind) & (kind <= operation::ARBITRATION_LOST_BEHAVIOR);
+    let known = ConfigurationKind::try_from(kind).is_ok();
     give_verdict(
         known & (size == expected),
         lawful,

@@ -4,11 +4,12 @@
 ghost use Rattle.std.specs.Prelude.{◌≡◌, ◌++◌, ◌+◌, ◌≤◌, length, IfOk};
 ghost use Rattle.operation.specs.Number.{little_endian};
 ghost use Rattle.operation.specs.Rules.{legal};
+ghost use Rattle.operation.specs.Tables.{code_number};
 ghost use Rattle.encoder.specs.Writing.{written_number, decision, write_outcome, buffer_written, written_of};
 ghost use Rattle.buffers.specs.Parts.{over};
 
 use buffers::{put, put_number};
-use operation::{Code, Operation};
+use operation::{Code, ConfigurationKind, Operation};
 
 // Why an operation is not written: the number of each refusal.
 #[derive(Clone, Copy, Debug, PartialEq, Eq)]
@@ -52,11 +53,11 @@ fn decide(
 }
 
 // The first eight bytes.
-fn put_start(buffer: &mut [u8], code: u32, size: u32)
+fn put_start(buffer: &mut [u8], code: Code, size: u32)
     requires { 8 ≤ length buffer.old }
-    ensures { buffer.new ≡ over buffer.old 0 (little_endian 4 code ++ little_endian 4 size) }
+    ensures { buffer.new ≡ over buffer.old 0 (little_endian 4 (code_number code) ++ little_endian 4 size) }
 {
-    put_number::<4>(buffer, 0, code);
+    put_number::<4>(buffer, 0, u32::from(code));
     put_number::<4>(buffer, 4, size);
 }
 
@@ -68,7 +69,7 @@ pub fn write_format_error(n: u16, payload: &[u8], buffer: &mut [u8]) -> Result<u
     ensures written { buffer.new ≡ written_of (Operation.FormatError n) payload.now buffer.old }
 {
     let size = decide(true, 10, n, payload.len(), buffer.len())?;
-    put_start(buffer, Code::FormatError as u32, size as u32);
+    put_start(buffer, Code::FormatError, size as u32);
     put_number::<2>(buffer, 8, u32::from(n));
     put(buffer, 10, payload);
     Ok(size)
@@ -87,7 +88,7 @@ pub fn write_can(
 {
     let lawful = operation::can_is_legal(id, ide, rtr, dl);
     let size = decide(lawful, 16, dl, payload.len(), buffer.len())?;
-    put_start(buffer, Code::CanTransmit as u32, size as u32);
+    put_start(buffer, Code::CanTransmit, size as u32);
     put_number::<4>(buffer, 8, id);
     put(buffer, 12, &[ide, rtr]);
     put_number::<2>(buffer, 14, u32::from(dl));
@@ -109,7 +110,7 @@ pub fn write_fd(
 {
     let lawful = operation::fd_is_legal(id, ide, brs, esi, dl);
     let size = decide(lawful, 17, dl, payload.len(), buffer.len())?;
-    put_start(buffer, Code::FdTransmit as u32, size as u32);
+    put_start(buffer, Code::FdTransmit, size as u32);
     put_number::<4>(buffer, 8, id);
     put(buffer, 12, &[ide, brs, esi]);
     put_number::<2>(buffer, 15, u32::from(dl));
@@ -133,7 +134,7 @@ pub fn write_xl(
 {
     let lawful = operation::xl_is_legal(id, ide, sec, sdt, vcid, af, dl);
     let size = decide(lawful, 22, dl, payload.len(), buffer.len())?;
-    put_start(buffer, Code::XlTransmit as u32, size as u32);
+    put_start(buffer, Code::XlTransmit, size as u32);
     put_number::<4>(buffer, 8, id);
     put(buffer, 12, &[ide, sec, sdt, vcid]);
     put_number::<4>(buffer, 16, af);
@@ -143,9 +144,9 @@ pub fn write_xl(
 }
 
 // A Confirm or an Arbitration Lost, by its code.
-fn write_id(code: u32, id: u32, payload: &[u8], buffer: &mut [u8]) -> Result<usize, WriteError>
+fn write_id(code: Code, id: u32, payload: &[u8], buffer: &mut [u8]) -> Result<usize, WriteError>
     ensures answer { result ≡ decision (legal (Operation.Confirm id)) 12 0 (length payload.now) (length buffer.old) }
-    ensures written { buffer.new ≡ buffer_written result (little_endian 4 code ++ little_endian 4 12 ++ little_endian 4 id) buffer.old }
+    ensures written { buffer.new ≡ buffer_written result (little_endian 4 (code_number code) ++ little_endian 4 12 ++ little_endian 4 id) buffer.old }
 {
     let size = decide(
         operation::id_is_legal(id),
@@ -163,7 +164,7 @@ pub fn write_confirm(id: u32, payload: &[u8], buffer: &mut [u8]) -> Result<usize
     ensures answer { result ≡ write_outcome (Operation.Confirm id) (length payload.now) (length buffer.old) }
     ensures written { buffer.new ≡ written_of (Operation.Confirm id) payload.now buffer.old }
 {
-    write_id(Code::Confirm as u32, id, payload, buffer)
+    write_id(Code::Confirm, id, payload, buffer)
 }
 
 pub fn write_arbitration_lost(
@@ -174,7 +175,7 @@ pub fn write_arbitration_lost(
     ensures answer { result ≡ write_outcome (Operation.ArbitrationLost id) (length payload.now) (length buffer.old) }
     ensures written { buffer.new ≡ written_of (Operation.ArbitrationLost id) payload.now buffer.old }
 {
-    write_id(Code::ArbitrationLost as u32, id, payload, buffer)
+    write_id(Code::ArbitrationLost, id, payload, buffer)
 }
 
 pub fn write_bus_error(
@@ -190,7 +191,7 @@ pub fn write_bus_error(
 {
     let lawful = operation::bus_error_is_legal(id, code, flag, sender);
     let size = decide(lawful, 15, 0, payload.len(), buffer.len())?;
-    put_start(buffer, Code::BusError as u32, size as u32);
+    put_start(buffer, Code::BusError, size as u32);
     put_number::<4>(buffer, 8, id);
     put(buffer, 12, &[code, flag, sender]);
     Ok(size)
@@ -202,7 +203,7 @@ pub fn write_status(status: u8, payload: &[u8], buffer: &mut [u8]) -> Result<usi
 {
     let lawful = operation::status_is_legal(status);
     let size = decide(lawful, 9, 0, payload.len(), buffer.len())?;
-    put_start(buffer, Code::Status as u32, size as u32);
+    put_start(buffer, Code::Status, size as u32);
     put(buffer, 8, &[status]);
     Ok(size)
 }
@@ -219,9 +220,9 @@ pub fn write_configuration(
     let lawful = operation::configuration_is_legal(kind, value);
     let head = operation::configuration_length(kind);
     let size = decide(lawful, head, 0, payload.len(), buffer.len())?;
-    put_start(buffer, Code::Configuration as u32, size as u32);
+    put_start(buffer, Code::Configuration, size as u32);
     put(buffer, 8, &[kind]);
-    if kind == operation::ARBITRATION_LOST_BEHAVIOR {
+    if kind == ConfigurationKind::ArbitrationLostBehavior as u8 {
         put_number::<1>(buffer, 9, value);
         return Ok(size);
     }
@@ -234,7 +235,7 @@ pub fn write_wakeup(payload: &[u8], buffer: &mut [u8]) -> Result<usize, WriteErr
     ensures written { buffer.new ≡ written_of Operation.Wakeup payload.now buffer.old }
 {
     let size = decide(true, 8, 0, payload.len(), buffer.len())?;
-    put_start(buffer, Code::Wakeup as u32, size as u32);
+    put_start(buffer, Code::Wakeup, size as u32);
     Ok(size)
 }
 

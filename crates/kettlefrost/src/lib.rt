@@ -361,8 +361,8 @@ pub fn kf_start(slots: &mut [Slot], payload: &[u8], queues: &[u8], count: u32) -
         return bus::no_start();
     };
     let c = bus::start(*lent, payload, queues, count);
-    slots.copy_from_slice(&bus::slots_started(c));
-    bus::answer_started(c)
+    slots.copy_from_slice(&c.slots);
+    outcome::answer_of(c.outcome, c.state)
 }
 
 pub fn kf_submit(

@@ -4,7 +4,7 @@
 
 ghost use Rattle.std.specs.Prelude.{◌≡◌, ◌≤◌, ◌&&◌};
 ghost use Rattle.operation.specs.Format.{head_length, data_length, configuration_length};
-ghost use Rattle.operation.specs.Tables.{code_from, error_code_from, error_flag_from, status_from, configuration_kind_from, behaviour_from};
+ghost use Rattle.operation.specs.Tables.{code_number, code_from, error_code_from, error_flag_from, status_from, configuration_kind_from, behaviour_from};
 ghost use Rattle.operation.specs.Tables.{error_code_name, error_flag_name, status_name, configuration_kind_name, behaviour_name};
 ghost use Rattle.operation.specs.Rules.{is_bit, max_id, one_of, fd_length, can_length, remote_rule, error_codes, error_flags, behaviours, setting_rule, legal};
 
@@ -52,6 +52,15 @@ impl TryFrom<u32> for Code {
             0x42 => Ok(Code::Wakeup),
             _ => Err(NotInTable),
         }
+    }
+}
+
+impl From<Code> for u32 {
+    ghost from_gives = { λ code x. x ≡ code_number code };
+
+    #[inline(always)]
+    fn from(code: Code) -> u32 {
+        code as u32
     }
 }
 
@@ -235,45 +244,6 @@ impl LostBehavior {
         }
     }
 }
-
-// Error Code of a Bus Error.
-pub const BIT_ERROR: u8 = ErrorCode::BitError as u8;
-
-pub const BIT_STUFFING_ERROR: u8 = ErrorCode::BitStuffingError as u8;
-
-pub const FORM_ERROR: u8 = ErrorCode::FormError as u8;
-
-pub const CRC_ERROR: u8 = ErrorCode::CrcError as u8;
-
-pub const ACK_ERROR: u8 = ErrorCode::AckError as u8;
-
-pub const BROKEN_ERROR_FRAME: u8 = ErrorCode::BrokenErrorFrame as u8;
-
-// Error Flag of a Bus Error.
-pub const PRIMARY_ERROR_FLAG: u8 = ErrorFlag::Primary as u8;
-
-pub const SECONDARY_ERROR_FLAG: u8 = ErrorFlag::Secondary as u8;
-
-// Status.
-pub const ERROR_ACTIVE: u8 = NodeStatus::ErrorActive as u8;
-
-pub const ERROR_PASSIVE: u8 = NodeStatus::ErrorPassive as u8;
-
-pub const BUS_OFF: u8 = NodeStatus::BusOff as u8;
-
-// Kind of a Configuration. The first three carry a baud rate, the last a behaviour.
-pub const CAN_BAUDRATE: u8 = ConfigurationKind::CanBaudrate as u8;
-
-pub const CAN_FD_BAUDRATE: u8 = ConfigurationKind::CanFdBaudrate as u8;
-
-pub const CAN_XL_BAUDRATE: u8 = ConfigurationKind::CanXlBaudrate as u8;
-
-pub const ARBITRATION_LOST_BEHAVIOR: u8 = ConfigurationKind::ArbitrationLostBehavior as u8;
-
-// Arbitration Lost Behavior.
-pub const BUFFER_AND_RETRANSMIT: u32 = LostBehavior::BufferAndRetransmit as u32;
-
-pub const DISCARD_AND_NOTIFY: u32 = LostBehavior::DiscardAndNotify as u32;
 
 // Lengths: of operations without data, and of a Format Error but for the bytes that it answers.
 pub const CONFIRM_LENGTH: usize = 12;

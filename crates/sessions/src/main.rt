@@ -2,10 +2,9 @@
 // hexadecimal, a line a node.
 #![tactic(auto)]
 
-use bus_state::State;
+use bus_state::{PAYLOAD_BYTES, QUEUE_BYTES};
 use lines::Line;
-use owned_slots::Owned;
-use slots::Slot;
+use owned_slots::Bus;
 use std::io::Stdout;
 
 // W1: ID 15, data AA BB.
@@ -21,79 +20,41 @@ const DISCARD: [u8; 10] = [0x40, 0, 0, 0, 0x0A, 0, 0, 0, 4, 2];
 
 const NODES: u32 = 3;
 
-// The bus as its user keeps it between calls, but for the lent bytes.
-#[derive(Drop)]
-struct Kept {
-    state: State,
-    slots: [Slot; 32],
-}
-
-fn keep(h: Owned) -> Kept {
-    let answer = h.answer;
-    let state = answer.state;
-    let slots = h.slots;
-    Kept { state, slots }
-}
-
-fn start(payload: &[u8], queues: &[u8]) -> Kept {
-    let slots = [slots::free(); 32];
-    let h = owned_slots::start(slots, payload, queues, NODES);
-    keep(h)
-}
-
-fn submit(k: Kept, payload: &mut [u8], queues: &mut [u8], node: u32, buffer: &[u8]) -> Kept {
-    let slots = k.slots;
-    let h = owned_slots::submit(k.state, slots, payload, queues, node, buffer);
-    keep(h)
-}
-
-fn round(k: Kept, payload: &mut [u8], queues: &mut [u8]) -> Kept {
-    let slots = k.slots;
-    let h = owned_slots::round(k.state, slots, payload, queues, 0, 0, 0);
-    keep(h)
-}
-
-// Collects a node's queue and writes it.
-fn write_queue(out: Stdout, k: Kept, payload: &[u8], queues: &[u8], node: u32) -> Kept {
-    let mut buffer = [0u8; 4096];
-    let slots = k.slots;
-    let answer = owned_slots::collect(k.state, slots, payload, queues, node, &mut buffer);
-    let n = answer.length as usize;
-    if n <= 4096 {
-        Line::new(out).hex_bytes(&buffer[..n]).end();
+// Collects each node's queue and writes it.
+fn write_queues(out: Stdout, bus: &mut Bus, payload: &[u8], queues: &[u8]) {
+    for node in 0..NODES {
+        let mut buffer = [0; 4096];
+        let answer = bus.collect(payload, queues, node, &mut buffer);
+        if let Some(queue) = buffer.get(..usize::from(answer.length)) {
+            Line::new(out).hex_bytes(queue).end();
+        }
     }
-    let state = answer.state;
-    Kept { state, slots }
-}
-
-fn write_queues(out: Stdout, k: Kept, payload: &[u8], queues: &[u8]) {
-    let k = write_queue(out, k, payload, queues, 0);
-    let k = write_queue(out, k, payload, queues, 1);
-    write_queue(out, k, payload, queues, 2);
 }
 
 // Node 0 submits W1, node 1, which discards, ID 16; one round.
 fn play_w5(out: Stdout) {
-    let mut payload = [0u8; 65536];
-    let mut queues = [0u8; 32768];
-    let k = start(&payload, &queues);
-    let k = submit(k, &mut payload, &mut queues, 0, &W1);
-    let k = submit(k, &mut payload, &mut queues, 1, &DISCARD);
-    let k = submit(k, &mut payload, &mut queues, 1, &ID_16);
-    let k = round(k, &mut payload, &mut queues);
-    write_queues(out, k, &payload, &queues);
+    let mut payload = [0; PAYLOAD_BYTES];
+    let mut queues = [0; QUEUE_BYTES];
+    let mut bus = Bus::new();
+    bus.start(&payload, &queues, NODES);
+    bus.submit(&mut payload, &mut queues, 0, &W1);
+    bus.submit(&mut payload, &mut queues, 1, &DISCARD);
+    bus.submit(&mut payload, &mut queues, 1, &ID_16);
+    bus.round(&mut payload, &mut queues, 0, 0, 0);
+    write_queues(out, &mut bus, &payload, &queues);
 }
 
 // The same with node 1 buffering, and a second round.
 fn play_w6(out: Stdout) {
-    let mut payload = [0u8; 65536];
-    let mut queues = [0u8; 32768];
-    let k = start(&payload, &queues);
-    let k = submit(k, &mut payload, &mut queues, 0, &W1);
-    let k = submit(k, &mut payload, &mut queues, 1, &ID_16);
-    let k = round(k, &mut payload, &mut queues);
-    let k = round(k, &mut payload, &mut queues);
-    write_queues(out, k, &payload, &queues);
+    let mut payload = [0; PAYLOAD_BYTES];
+    let mut queues = [0; QUEUE_BYTES];
+    let mut bus = Bus::new();
+    bus.start(&payload, &queues, NODES);
+    bus.submit(&mut payload, &mut queues, 0, &W1);
+    bus.submit(&mut payload, &mut queues, 1, &ID_16);
+    bus.round(&mut payload, &mut queues, 0, 0, 0);
+    bus.round(&mut payload, &mut queues, 0, 0, 0);
+    write_queues(out, &mut bus, &payload, &queues);
 }
 
 fn main(rt: HostRuntime) {

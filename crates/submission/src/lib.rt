@@ -22,7 +22,7 @@ ghost use Rattle.submission.specs.Carrying.{memory_after_all, queue_with, wakeup
 
 use bus_state::{NodeState, PAYLOAD_BYTES, QUEUE_BYTES, State};
 use decoder::{Cursor, Reading};
-use operation::{ConfigurationKind, NodeStatus, Operation};
+use operation::{Code, ConfigurationKind, NodeStatus, Operation};
 use outcome::{Change, Done, Refusal};
 use slots::Slot;
 
@@ -102,7 +102,7 @@ fn operation_effect(op: Operation) -> Effect
 fn fault_effect(bytes: &[u8]) -> Effect
     ensures { result ≡ fault_effect bytes.now }
 {
-    if (4 <= bytes.len()) & (decoder::code_of(bytes) == 0x01) {
+    if (4 <= bytes.len()) & (decoder::code_of(bytes) == Code::FormatError as u32) {
         return Effect::Nothing;
     }
     Effect::Answer
@@ -363,7 +363,8 @@ fn state_left(s: State, k: usize, u: usize, d: NodeState) -> State
 }
 
 // Carries a buffer out, of which every step can be done, with the sender's four slots, those from `start` on. Whatever the other slots
-// are, they stay. The four are locals of their own: an array would be copied several times.
+// are, they stay.
+// Stays: four locals and not an array, since one variable index keeps it in memory, with what holds it (docs/PROVING.md, "Code").
 fn carry_buffer(
     s: State,
     start: usize,

@@ -12,6 +12,7 @@ use Rattle.outcome.proofs.Endings.{block-kept-ends}
 use Rattle.outcome.specs.declared.Refusal.TheVariants.{QueueFull, RoundsUsedUp}
 use Rattle.scan.specs.Winner.{held_at}
 use Rattle.std.specs.Prelude.{Err}
+use Rattle.std.proofs.Common.{rules, length}
 use mathlib.Core.Path.{◌≡◌, refl, sym, ap, ◌∙◌}
 use native.Mathlib.Nat.{add-sub_cancel_left}
 use native.Mathlib.Omega.{arith}
@@ -41,15 +42,17 @@ overflow_add-news-2 c =
 
 pub slice_bounds-news-end : goal.slice_bounds-news-end
 slice_bounds-news-end c =
+    let lent : length c.args.payload.now ≡ 65_536 = search rules in
     let d = c.requires.drawn.1 in
     let t = place_small d in
     let n : c.data_length-n.result ≡ data_length (held_at c.args.four c.args.won.position) = c.data_length-n.ensures ∙ ap data_length c.held_in-op.ensures in
-    omega (arith, t.0, t.1, t.2, n, (four-frames d c.args.won.position (omega arith) t.1).short, c.requires.payload_len.0)
+    omega (arith, t.0, t.1, t.2, n, (four-frames d c.args.won.position (omega arith) t.1).short, lent)
 
 pub invariant_of-news : goal.invariant_of-news
 unfolding part
 invariant_of-news c =
     let a = c.args in
+    let lent : length a.payload.now ≡ 65_536 = search rules in
     let d = c.requires.drawn.1 in
     let t = place_small d in
     let f = four-frames d a.won.position (omega arith) t.1 in
@@ -59,7 +62,7 @@ invariant_of-news c =
     add-sub_cancel_left _ _ ∙ c.data_length-n.ensures ∙ ap data_length o in
     let b =
     length_part from (data_length (held_at a.four a.won.position)) a.payload.now
-    (omega (arith, t.0, t.1, t.2, f.short, c.requires.payload_len.0)) in
+    (omega (arith, t.0, t.1, t.2, f.short, lent)) in
     record {
       lawful = rw o f.lawful;
       named = c.id_of.ensures ∙ sym (ap id_of o);
@@ -78,29 +81,33 @@ returns-then-not-has_room c =
     let a = c.args in
     let x : c.head_length.result + c.data_length-n.result ≡ length_of (held_at a.four a.won.position) =
     rw (c.head_length.ensures.0, c.data_length-n.ensures, c.held_in-op.ensures) in
-    let eight = c.well_formed.0.1.1.1.1.0.1.0.1 in
+    let eight : length a.s.nodes ≡ 8 = search rules in
+    let lent : (length a.payload.now ≡ 65_536) × (length a.queues.now ≡ 32_768) = search rules in
     let q = rw x at (sym c.has_room.ensures ∙ c.if-not-has_room.true) in
-    record {
+    rw c.refused.ensures
+    (record {
       queues_after =
           λ l d. block-kept-ends (Err QueueFull) a.s l (4 * a.won.owner) a.payload.now a.queues.now d.block
-          ∙ full-ended a.s l a.payload.now a.queues.now a.e a.won a.four a.ids eight c.requires.payload_len d q;
+          ∙ full-ended a.s l a.payload.now a.queues.now a.e a.won a.four a.ids eight lent d q;
       at_value = refl;
-    }
+    })
 
 pub returns-then-s-ge-LAST_ROUND : goal.returns-then-s-ge-LAST_ROUND
 returns-then-s-ge-LAST_ROUND c =
     let a = c.args in
     let x : c.head_length.result + c.data_length-n.result ≡ length_of (held_at a.four a.won.position) =
     rw (c.head_length.ensures.0, c.data_length-n.ensures, c.held_in-op.ensures) in
-    let eight = c.well_formed.0.1.1.1.1.0.1.0.1 in
+    let eight : length a.s.nodes ≡ 8 = search rules in
+    let lent : (length a.payload.now ≡ 65_536) × (length a.queues.now ≡ 32_768) = search rules in
     let q = rw x at (sym c.has_room.ensures ∙ c.if-not-has_room.false) in
-    record {
+    rw c.refused-then-s-ge-LAST_ROUND.ensures
+    (record {
       queues_after =
           λ l d. block-kept-ends (Err RoundsUsedUp) a.s l (4 * a.won.owner) a.payload.now a.queues.now d.block
-          ∙ used_up_ended a.s l a.payload.now a.queues.now a.e a.won a.four a.ids eight c.requires.payload_len d q
+          ∙ used_up_ended a.s l a.payload.now a.queues.now a.e a.won a.four a.ids eight lent d q
           c.if-s-ge-LAST_ROUND.true;
       at_value = refl;
-    }
+    })
 
 pub tell_all-state-requires-clause-tellable : goal.tell_all-state-requires-clause-tellable
 tell_all-state-requires-clause-tellable c =
@@ -131,7 +138,7 @@ move_data-requires c =
     let t = place_small d in
     rw c.entry-d.ensures
     (record {
-      position_le_last = (omega (arith, t.1), omega (arith, t.1, t.2), omega (arith, t.0), c.requires.payload_len.0);
+      position_le_last = (omega (arith, t.1), omega (arith, t.1, t.2), omega (arith, t.0));
       frames = λ p l u. four-frames d p (omega arith) (omega (arith, t.1));
     })
 
@@ -150,15 +157,16 @@ returns c =
     let from = 2_048 * (4 * a.won.owner + a.won.position) in
     let k : from + c.data_length-n.result - from ≡ data_length (held_at a.four a.won.position) =
     add-sub_cancel_left _ _ ∙ c.data_length-n.ensures ∙ ap data_length o in
-    let eight = c.well_formed.0.1.1.1.1.0.1.0.1 in
+    let eight : length a.s.nodes ≡ 8 = search rules in
+    let lent : (length a.payload.now ≡ 65_536) × (length a.queues.now ≡ 32_768) = search rules in
     let q = rw x at (sym c.has_room.ensures ∙ c.if-not-has_room.false) in
     let g = c.tell_all-state.ensures in
     let own = c.entry-d.ensures in
     record {
       queues_after =
-          λ l d. done-ended a.s l a.payload.now a.queues.now a.e a.won a.four a.ids eight c.requires.payload_len d q c.id_of.ensures
+          λ l d. done-ended a.s l a.payload.now a.queues.now a.e a.won a.four a.ids eight lent d q c.id_of.ensures
           (c.is_some.ensures ∙ errored_is a.e) (rw x at g.value) (rw own at c.block_without-block.ensures) (rw own at c.move_data.ensures)
           (rw (k, o) at g.queues_after)
-          ∙ carried-ended a.s l a.payload.now a.queues.now a.e a.won a.four a.ids eight c.requires.payload_len d q c.if-s-ge-LAST_ROUND.false;
+          ∙ carried-ended a.s l a.payload.now a.queues.now a.e a.won a.four a.ids eight lent d q c.if-s-ge-LAST_ROUND.false;
       at_value = refl;
     }

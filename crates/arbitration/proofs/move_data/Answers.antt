@@ -1,8 +1,7 @@
 use Prim.Native.Nat.{◌+◌}
-use Rattle.arbitration.proofs.Moves.{data_next, data_end_lem, data_length-kept}
+use Rattle.arbitration.proofs.Moves.{data_next, data_end_lem}
 use Rattle.scan.specs.Winner.{held_at}
 use Rattle.operation.specs.Format.{data_length}
-use lib.ListN.{length}
 use mathlib.Core.Path.{◌≡◌, sym, ap, ◌∙◌}
 use native.Mathlib.Numerals.{add-one}
 use native.Mathlib.Omega.{arith}
@@ -22,18 +21,12 @@ loop-q-preserved c =
     let a = c.args in
     let w = (c.requires.frames (l.q + 1) (omega arith) (omega arith)).short in
     let n : c.data_length-n.result ≡ data_length (held_at a.four (l.q + 1)) = c.data_length-n.ensures ∙ ap data_length c.held_in.ensures
-    in record {
-      moved =
-          rw (c.shift.ensures, n, add-one (a.at + l.q), add-one l.q)
-          (sym (data_next a.four a.at l.q a.last l.payload (omega arith)) ∙ l.invariant.moved);
-      size = ap length c.shift.ensures ∙ data_length-kept l.payload _ _ _ (omega arith) (omega arith) ∙ l.invariant.size;
-    }
-
-pub shape_of-payload : goal.shape_of-payload
-shape_of-payload c = c.loop-q.invariant.size
+    in
+    rw (c.shift.ensures, n, add-one (a.at + l.q), add-one l.q)
+    (sym (data_next a.four a.at l.q a.last l.payload (omega arith)) ∙ l.invariant)
 
 pub returns : goal.returns
 returns c =
     let a = c.args in
     let l = c.loop-q in
-    sym (data_end_lem a.four a.at l.q a.last l.payload (omega arith)) ∙ l.invariant.moved
+    sym (data_end_lem a.four a.at l.q a.last l.payload (omega arith)) ∙ l.invariant

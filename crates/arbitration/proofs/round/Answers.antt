@@ -27,13 +27,14 @@ returns-then-is_wrong c =
     let a = c.args in
     let f = c.first_slot-at in
     let q : is_wrong a.s a.e ≡ true = grind (arith, common_steps) in
-    record {
+    rw c.refused.ensures
+    (record {
       queues_after =
           λ l d. block-kept-ends (Err BadInjection) a.s l f.result a.payload.now a.queues.now (rw f.ensures d.block)
           ∙ wrong_ended a.s l a.payload.now a.queues.now a.e q;
       at_value = f.ensures;
       slots_per_node_bound = omega (arith, f.ensures, owner_small c.requires.drawn.1);
-    }
+    })
 
 pub arbitrate-requires : goal.arbitrate-requires
 arbitrate-requires c =
@@ -42,7 +43,6 @@ arbitrate-requires c =
     record {
       drawn = (c.requires.drawn.0, rw c.in-Some.is at c.requires.drawn.1);
       e_value = right_code a.s a.e q;
-      payload_len = c.requires.payload_len;
     }
 
 pub returns-in_default : goal.returns-in_default

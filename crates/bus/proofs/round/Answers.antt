@@ -47,9 +47,7 @@ winner_of-best-requires c =
 pub round-requires : goal.round-requires
 round-requires c =
     let v = past_tests (counted c.requires.1.scan) c.args.payload.now c.args.queues.now (sym c.test_lent.ensures ∙ c.in_default.is) in
-    let p = (rw c.unwrap-payload.ensures at c.as_mut_array.ensures.cases).same in
-    let q = (rw c.unwrap-queues.ensures at c.as_mut_array-2.ensures.cases).same in
-    record { drawn = (c.requires.0, drawn c.requires.1 v.keyed c.winner_of-best.ensures); payload_len = rw (p, q) (v.payload, v.queues) }
+    record { drawn = (c.requires.0, drawn c.requires.1 v.keyed c.winner_of-best.ensures) }
 
 pub returns : goal.returns
 unfolding round_in

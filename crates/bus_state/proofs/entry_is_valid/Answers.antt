@@ -1,29 +1,13 @@
 -- The first test that fails decides.
 use Rattle.bus_state.specs.Valid.{valid_entry}
 use Rattle.operation.specs.Rules.{all_after, rules, legal}
-use borrow.Author.Tests.{le-leb, lt-leb}
+use borrow.Author.Tests.{le-leb}
 use mathlib.Core.Path.{sym, ◌∙◌}
 use Rattle.bus_state.proofs.entry_is_valid.Goals as goal
 
 pub returns-then-not-status_is_legal : goal.returns-then-not-status_is_legal
 unfolding valid_entry all_after rules legal
 returns-then-not-status_is_legal c = rw (sym c.status_is_legal.ensures ∙ c.if-not-status_is_legal.true)
-
-pub returns-then-not-is_behaviour : goal.returns-then-not-is_behaviour
-unfolding valid_entry all_after rules legal
-returns-then-not-is_behaviour c = rw (sym c.status_is_legal.ensures ∙ c.if-not-status_is_legal.false, sym c.is_behaviour.ensures ∙ c.if-not-is_behaviour.true)
-
-pub returns-then-not-are_non_zero : goal.returns-then-not-are_non_zero
-unfolding valid_entry all_after rules legal
-returns-then-not-are_non_zero c = rw (sym c.status_is_legal.ensures ∙ c.if-not-status_is_legal.false, sym c.is_behaviour.ensures ∙ c.if-not-is_behaviour.false, sym c.are_non_zero.ensures ∙ c.if-not-are_non_zero.true)
-
-pub returns-then-d-gt-QUEUE_CAPACITY : goal.returns-then-d-gt-QUEUE_CAPACITY
-unfolding valid_entry all_after rules legal
-returns-then-d-gt-QUEUE_CAPACITY c = rw (sym c.status_is_legal.ensures ∙ c.if-not-status_is_legal.false, sym c.is_behaviour.ensures ∙ c.if-not-is_behaviour.false, sym c.are_non_zero.ensures ∙ c.if-not-are_non_zero.false, lt-leb _ _ c.if-d-gt-QUEUE_CAPACITY.true)
-
-pub returns-then-d-gt-MAX_PENDING : goal.returns-then-d-gt-MAX_PENDING
-unfolding valid_entry all_after rules legal
-returns-then-d-gt-MAX_PENDING c = rw (sym c.status_is_legal.ensures ∙ c.if-not-status_is_legal.false, sym c.is_behaviour.ensures ∙ c.if-not-is_behaviour.false, sym c.are_non_zero.ensures ∙ c.if-not-are_non_zero.false, le-leb _ _ c.if-d-gt-QUEUE_CAPACITY.false, lt-leb _ _ c.if-d-gt-MAX_PENDING.true)
 
 pub returns : goal.returns
 unfolding valid_entry all_after rules legal

@@ -4,18 +4,6 @@ use mathlib.Core.Path.{◌≡◌}
 use native.Mathlib.Omega.{arith}
 use Rattle.bus_state.proofs.with_rate.Goals as goal
 
-pub returns-then-i-eq0 : goal.returns-then-i-eq0
-returns-then-i-eq0 c =
-    let rates = c.args.d.rates in
-    let three = c.well_formed.0.1.1.0.1.0.1 in
-    rw (c.if-i-eq0.true, (set_of_three rates c.args.rate three).0)
-
-pub returns-then-i-eq1 : goal.returns-then-i-eq1
-returns-then-i-eq1 c =
-    let rates = c.args.d.rates in
-    let three = c.well_formed.0.1.1.0.1.0.1 in
-    rw (c.if-i-eq1.true, (set_of_three rates c.args.rate three).1)
-
 pub returns : goal.returns
 returns c =
     let rates = c.args.d.rates in

@@ -16,12 +16,12 @@ returns-in_err-size c =
     let h = refused (Configuration a.kind a.value) a.payload.now a.buffer.now (answers (Configuration a.kind a.value) _ _ c.configuration_is_legal-lawful.ensures (rw c.configuration_length-head.ensures.0 at c.decide.ensures.value)) c.in_err-size.was c.from_residual.ensures.1 in
     record { answer = h.0; written = h.1 }
 
-pub returns-then-kind-eq-ARBITRATION_LOST_BEHAVIOR : goal.returns-then-kind-eq-ARBITRATION_LOST_BEHAVIOR
+pub returns-then-kind : goal.returns-then-kind
 unfolding header
-returns-then-kind-eq-ARBITRATION_LOST_BEHAVIOR c =
+returns-then-kind c =
     let a = c.args in
     let e = answers (Configuration a.kind a.value) _ _ c.configuration_is_legal-lawful.ensures (rw c.configuration_length-head.ensures.0 at c.in_ok-size.ensures.value) in
-    let k = c.if-kind-eq-ARBITRATION_LOST_BEHAVIOR.true in
+    let k = c.if-kind.true in
     let n = rw (c.configuration_length-head.ensures.0, k) at c.in_ok-size.ensures.accepted.0 in
     let h : c.put_number.new.buffer ≡ over a.buffer.now 0 (header (Configuration a.kind a.value)) =
     rw (c.put_number.ensures, c.put.ensures, c.put_start.ensures, n, k)
@@ -33,7 +33,7 @@ unfolding header
 returns c =
     let a = c.args in
     let e = answers (Configuration a.kind a.value) _ _ c.configuration_is_legal-lawful.ensures (rw c.configuration_length-head.ensures.0 at c.in_ok-size.ensures.value) in
-    let k = ne_eqb _ _ c.if-kind-eq-ARBITRATION_LOST_BEHAVIOR.false in
+    let k = ne_eqb _ _ c.if-kind.false in
     let n = rw (c.configuration_length-head.ensures.0, k) at c.in_ok-size.ensures.accepted.0 in
     let h : c.put_number-2.new.buffer ≡ over a.buffer.now 0 (header (Configuration a.kind a.value)) =
     rw (c.put_number-2.ensures, c.put.ensures, c.put_start.ensures, n, k)

@@ -12,6 +12,7 @@ use Rattle.buffers.specs.Parts.{over}
 use lib.Dec.{eqb}
 use lib.ListN.{length, get_or, length-append}
 use lib.Seq.{get_or-set_other}
+use Rattle.std.proofs.Common.{rules}
 use mathlib.Core.Path.{◌≡◌, refl, sym, ap, ◌∙◌}
 use native.Mathlib.Nat.{add-sub_cancel_left}
 use native.Mathlib.Numerals.{add-one}
@@ -37,31 +38,33 @@ tell-to-requires c =
     let a = c.args in
     let w = a.self.now in
     let l = c.loop-j in
+    let lent : length l.queues ≡ 32_768 = search rules in
     let r = c.requires.room in
     let k =
-    owed-fits w.error w.op w.bytes.now w.size c.requires.tellable.1 c.requires.tellable.2 w.whole w.sized r.0
+    owed-fits w.error w.op w.bytes.now w.size c.requires.tellable.1 c.requires.tellable.2 w.whole w.sized r
     l.j (omega arith) in
     rw (l.invariant.same l.j (omega arith))
-    (omega arith, omega (arith, k, r.1, l.auto.queues))
+    (omega arith, omega (arith, k, lent))
 
 pub loop-p-init : goal.loop-p-init
 loop-p-init c =
     let a = c.args in
     let w = a.self.now in
     let l = c.loop-j in
+    let lent : length l.queues ≡ 32_768 = search rules in
     let r = c.requires.room in
     let d = node_state a.s l.j in
-    let k = owed-fits w.error w.op w.bytes.now w.size c.requires.tellable.1 c.requires.tellable.2 w.whole w.sized r.0 l.j (omega arith) in
+    let k = owed-fits w.error w.op w.bytes.now w.size c.requires.tellable.1 c.requires.tellable.2 w.whole w.sized r l.j (omega arith) in
     let news = news_to w.error l.j w.owner (is_off d) w.op w.bytes.now in
     let few = c.requires.tellable.1.few l.j (omega arith) in
     let same = l.invariant.same l.j (omega arith) in
     let n = rw same at c.discarded.ensures in
     let t = rw same at c.tell-to.ensures in
-    let o = length_over (4_096 * l.j + d.fill) news l.queues (omega (arith, k, r.1, l.auto.queues)) in
+    let o = length_over (4_096 * l.j + d.fill) news l.queues (omega (arith, k, lent)) in
     record {
       few = omega (arith, n, few, discarded-few d);
       laid = refl;
-      room = rw (n, add-sub_cancel_left, t.queues_after, t.value) (omega (arith, k, r.1, l.auto.queues, o));
+      room = rw (n, add-sub_cancel_left, t.queues_after, t.value) (omega (arith, k, lent, o));
     }
 
 pub put_notice-to-requires : goal.put_notice-to-requires
@@ -112,7 +115,7 @@ entry_after-requires c =
     let a = c.args in
     let w = a.self.now in
     let l = c.loop-j in
-    rw (l.invariant.same l.j (omega arith)) (room_at w.error a.s.nodes w.owner w.size a.s.count c.requires.room.0 l.j (omega arith))
+    rw (l.invariant.same l.j (omega arith)) (room_at w.error a.s.nodes w.owner w.size a.s.count c.requires.room l.j (omega arith))
 
 pub loop-j-preserved : goal.loop-j-preserved
 unfolding owed_to
@@ -120,10 +123,11 @@ loop-j-preserved c =
     let a = c.args in
     let w = a.self.now in
     let l = c.loop-j in
+    let lent : length l.queues ≡ 32_768 = search rules in
     let u : l.j < a.s.count = c.loop-j-test.true in
     let r = c.requires.room in
     let d = node_state a.s l.j in
-    let k = owed-fits w.error w.op w.bytes.now w.size c.requires.tellable.1 c.requires.tellable.2 w.whole w.sized r.0 l.j u in
+    let k = owed-fits w.error w.op w.bytes.now w.size c.requires.tellable.1 c.requires.tellable.2 w.whole w.sized r l.j u in
     let slot = 4 * w.owner + a.position in
     let news = news_to w.error l.j w.owner (is_off d) w.op w.bytes.now in
     let told = notices_but a.ids.now slot (4 * l.j) (discarded d) in
@@ -135,7 +139,7 @@ loop-j-preserved c =
     let at = 4_096 * l.j + d.fill in
     let x = sym (over_none m.queues m.to) ∙ ap (over m.queues m.to) (sym (notices_end a.ids.now slot m.p end (omega arith))) ∙ m.invariant.laid in
     let y = rw (rw same at c.discarded.ensures, add-sub_cancel_left) at x in
-    let z = in_two l.queues news told at (omega (arith, k, r.1, l.auto.queues)) t.queues_after t.value y in
+    let z = in_two l.queues news told at (omega (arith, k, lent)) t.queues_after t.value y in
     record {
       entries =
           rw (add-one l.j, rw same at c.entry_after.ensures)
