@@ -143,39 +143,11 @@ fn fill_woken(d: NodeState, k: usize, u: usize, j: usize) -> usize
     fill + u * operation::WAKEUP_LENGTH
 }
 
-// Whether every queue has room for u of them.
-fn wakeups_have_room(s: State, k: usize, u: usize) -> bool
-    requires { (s.count ≤ 8) × (u ≤ bytes_per_queue) }
-    ensures { result ≡ wakeup_room s.nodes k u 0 s.count }
-{
-    let nodes = s.nodes;
-    for j in 0..s.count as usize {
-        let d = nodes[j];
-        if bus_state::BYTES_PER_QUEUE < fill_woken(d, k, u, j) {
-            return false;
-        }
-    }
-    true
-}
-
 fn entry_woken(d: NodeState, k: usize, u: usize, j: usize) -> NodeState
     requires { (u ≤ bytes_per_queue) × (fill_woken d k u j ≤ bytes_per_queue) }
     ensures { result ≡ entry_woken d k u j }
 {
     bus_state::with_fill(d, fill_woken(d, k, u, j) as u16)
-}
-
-// The state with u of them.
-fn woken(s: State, k: usize, u: usize) -> State
-    requires { (s.count ≤ 8) × (u ≤ bytes_per_queue) × (wakeup_room s.nodes k u 0 s.count ≡ true) }
-    ensures { result ≡ woken_by s k u }
-{
-    let mut nodes = s.nodes;
-    for j in 0..s.count as usize {
-        let d = nodes[j];
-        nodes[j] = entry_woken(d, k, u, j);
-    }
-    State { nodes, ..s }
 }
 
 // ---- a step, on the sender's entry
@@ -255,33 +227,6 @@ fn entry_after(d: NodeState, effect: Effect, size: usize) -> NodeState
     }
 }
 
-// Whether a buffer is taken: the first step that can't be done decides. Every step but a Wakeup is about the sender's entry alone, so
-// the state stays as it was, beside the entry and the number of Wakeups so far.
-fn check_buffer(s: State, k: usize, entry: NodeState, buffer: &[u8]) -> Result<(), Lack>
-    requires k_bound { (k < 8) × (s.count ≤ 8) × (length buffer.now ≤ max_submit) }
-    requires value { (entry ≡ node_state s k) × (entry.fill ≤ bytes_per_queue) }
-    ensures { result ≡ check_items k (items_of buffer.now) s }
-{
-    let mut d = entry;
-    let mut wakeups: usize = 0;
-    let mut at: usize = 0;
-    while let Some(step) = step_at(buffer, at) {
-        let effect = step.effect;
-        let size = step.end - at;
-        if is_wakeup(d, effect) {
-            if !wakeups_have_room(s, k, wakeups + 1) {
-                return Err(Lack::QueueFull);
-            }
-            wakeups += 1;
-        } else {
-            entry_check(d, effect, size)?;
-            d = entry_after(d, effect, size);
-        }
-        at = step.end;
-    }
-    Ok(())
-}
-
 // ---- carrying it out
 
 // Lays a Wakeup over a buffer from a position on.
@@ -339,103 +284,176 @@ fn wake_at(d: NodeState, k: usize, u: usize, j: usize, queues: &mut [u8; QUEUE_B
     );
 }
 
-// Puts one more Wakeup of node k, behind u of them, into the queue of every other node that is not Bus-Off.
-fn wake(s: State, k: usize, u: usize, queues: &mut [u8; QUEUE_BYTES])
-    requires { (s.count ≤ 8) × (u < bytes_per_queue) × (wakeup_room s.nodes k (u + 1) 0 s.count ≡ true) }
-    ensures { queues.new ≡ wakeups_laid s.nodes k u 0 s.count queues.old }
-{
-    let nodes = s.nodes;
-    for j in 0..s.count as usize {
-        let d = nodes[j];
-        wake_at(d, k, u, j, queues);
-    }
+// ---- a buffer of a node
+
+// A node that hands a buffer in, at the state as it was.
+#[derive(Clone, Copy)]
+struct Sender<'a> {
+    state: &'a State,
+    node: usize,
+    ghost number: { node < 8 },
+    ghost few: { state.now.count ≤ 8 },
+    ghost eight: { length state.now.nodes ≡ 8 },
+    ghost own: { (node_state state.now node).fill ≤ bytes_per_queue },
 }
 
-// The state after all steps: with u Wakeups of node k, and its entry.
-fn state_left(s: State, k: usize, u: usize, d: NodeState) -> State
-    requires { (k < 8) × (s.count ≤ 8) × (u ≤ bytes_per_queue) × (0 < u → wakeup_room s.nodes k u 0 s.count ≡ true) }
-    ensures { result ≡ with_entry (woken_by s k u) k d }
-{
-    if u == 0 {
-        return bus_state::with_entry(s, k, d);
+impl<'a> Sender<'a> {
+    // Whether every queue has room for u of its Wakeups.
+    fn wakeups_have_room(&self, u: usize) -> bool
+        requires { u ≤ bytes_per_queue }
+        ensures { result ≡ wakeup_room self.now.state.now.nodes self.now.node u 0 self.now.state.now.count }
+    {
+        for j in 0..self.state.count as usize {
+            let d = self.state.nodes[j];
+            if bus_state::BYTES_PER_QUEUE < fill_woken(d, self.node, u, j) {
+                return false;
+            }
+        }
+        true
     }
-    bus_state::with_entry(woken(s, k, u), k, d)
-}
 
-// Carries a buffer out, of which every step can be done, with the sender's four slots, those from `start` on. Whatever the other slots
-// are, they stay.
-// Stays: four locals and not an array, since one variable index keeps it in memory, with what holds it (docs/PROVING.md, "Code").
-fn carry_buffer(
-    s: State,
-    start: usize,
-    k: usize,
-    entry: NodeState,
-    buffer: &[u8],
-    four: [Slot; 4],
-    payload: &mut [u8; PAYLOAD_BYTES],
-    queues: &mut [u8; QUEUE_BYTES],
-) -> Change
-    requires k_bound { (k < 8) × (s.count ≤ 8) × (length buffer.now ≤ max_submit) }
-    requires value { (entry ≡ node_state s k) × (entry.fill ≤ bytes_per_queue) }
-    requires s_value { check_items k (items_of buffer.now) s ≡ Ok tt }
-    ensures outcome { (result.outcome ≡ Ok Done.Accepted) × (result.at ≡ start) }
-    ensures memory { (slots : List Slot) → held result.state (set_block slots (slots_per_node * k) result.block) payload.new queues.new ≡ memory_after_all k (items_of buffer.now) (held s (set_block slots (slots_per_node * k) four) payload.old queues.old) }
-{
-    let mut first = four[0];
-    let mut second = four[1];
-    let mut third = four[2];
-    let mut fourth = four[3];
-    let mut d = entry;
-    let mut wakeups: usize = 0;
-    let mut at: usize = 0;
-    while let Some(step) = step_at(buffer, at) {
-        let effect = step.effect;
-        let end = step.end;
-        let after = entry_after(d, effect, end - at);
-        match effect {
-            Effect::Transmit(op) => {
-                if !bus_state::is_off(d) {
-                    lay_data(d, k, decoder::data(buffer, op, Cursor { at: end }), payload);
-                    let slot = slots::slot_of(op, k as u8, s.round);
-                    let q = d.pending;
-                    match q {
-                        0 => {
-                            first = slot;
-                        }
-                        1 => {
-                            second = slot;
-                        }
-                        2 => {
-                            third = slot;
-                        }
-                        _ => {
-                            fourth = slot;
+    // The state with u of its Wakeups.
+    fn woken(&self, u: usize) -> State
+        requires { (u ≤ bytes_per_queue) × (wakeup_room self.now.state.now.nodes self.now.node u 0 self.now.state.now.count ≡ true) }
+        ensures { result ≡ woken_by self.now.state.now self.now.node u }
+    {
+        let mut nodes = self.state.nodes;
+        for j in 0..self.state.count as usize {
+            let d = nodes[j];
+            nodes[j] = entry_woken(d, self.node, u, j);
+        }
+        State {
+            nodes,
+            ..*self.state
+        }
+    }
+
+    // Whether a buffer is taken: the first step that can't be done decides. Every step but a Wakeup is about the sender's entry alone, so
+    // the state stays as it was, beside the entry and the number of Wakeups so far.
+    fn check_buffer(&self, entry: NodeState, buffer: &[u8]) -> Result<(), Lack>
+        requires { (length buffer.now ≤ max_submit) × (entry ≡ node_state self.now.state.now self.now.node) }
+        ensures { result ≡ check_items self.now.node (items_of buffer.now) self.now.state.now }
+    {
+        let mut d = entry;
+        let mut wakeups: usize = 0;
+        let mut at: usize = 0;
+        while let Some(step) = step_at(buffer, at) {
+            let effect = step.effect;
+            let size = step.end - at;
+            if is_wakeup(d, effect) {
+                if !self.wakeups_have_room(wakeups + 1) {
+                    return Err(Lack::QueueFull);
+                }
+                wakeups += 1;
+            } else {
+                entry_check(d, effect, size)?;
+                d = entry_after(d, effect, size);
+            }
+            at = step.end;
+        }
+        Ok(())
+    }
+
+    // Puts one more of its Wakeups, behind u of them, into the queue of every other node that is not Bus-Off.
+    fn wake(&self, u: usize, queues: &mut [u8; QUEUE_BYTES])
+        requires { (u < bytes_per_queue) × (wakeup_room self.now.state.now.nodes self.now.node (u + 1) 0 self.now.state.now.count ≡ true) }
+        ensures { queues.new ≡ wakeups_laid self.now.state.now.nodes self.now.node u 0 self.now.state.now.count queues.old }
+    {
+        for j in 0..self.state.count as usize {
+            let d = self.state.nodes[j];
+            wake_at(d, self.node, u, j, queues);
+        }
+    }
+
+    // The state after all steps: with u of its Wakeups, and its entry.
+    fn state_left(&self, u: usize, d: NodeState) -> State
+        requires { (u ≤ bytes_per_queue) × (0 < u → wakeup_room self.now.state.now.nodes self.now.node u 0 self.now.state.now.count ≡ true) }
+        ensures { result ≡ with_entry (woken_by self.now.state.now self.now.node u) self.now.node d }
+    {
+        if u == 0 {
+            return bus_state::with_entry(*self.state, self.node, d);
+        }
+        bus_state::with_entry(self.woken(u), self.node, d)
+    }
+
+    // Carries a buffer out, of which every step can be done, with the sender's four slots, those from `start` on. Whatever the other slots
+    // are, they stay.
+    // Stays: four locals and not an array, since one variable index keeps it in memory, with what holds it (docs/PROVING.md, "Code").
+    fn carry_buffer(
+        &self,
+        start: usize,
+        entry: NodeState,
+        buffer: &[u8],
+        four: [Slot; 4],
+        payload: &mut [u8; PAYLOAD_BYTES],
+        queues: &mut [u8; QUEUE_BYTES],
+    ) -> Change
+        requires value { (length buffer.now ≤ max_submit) × (entry ≡ node_state self.now.state.now self.now.node) }
+        requires goes { check_items self.now.node (items_of buffer.now) self.now.state.now ≡ Ok tt }
+        ensures outcome { (result.outcome ≡ Ok Done.Accepted) × (result.at ≡ start) }
+        ensures memory { (slots : List Slot) → held result.state (set_block slots (slots_per_node * self.now.node) result.block) payload.new queues.new ≡ memory_after_all self.now.node (items_of buffer.now) (held self.now.state.now (set_block slots (slots_per_node * self.now.node) four) payload.old queues.old) }
+    {
+        let mut first = four[0];
+        let mut second = four[1];
+        let mut third = four[2];
+        let mut fourth = four[3];
+        let mut d = entry;
+        let mut wakeups: usize = 0;
+        let mut at: usize = 0;
+        while let Some(step) = step_at(buffer, at) {
+            let effect = step.effect;
+            let end = step.end;
+            let after = entry_after(d, effect, end - at);
+            match effect {
+                Effect::Transmit(op) => {
+                    if !bus_state::is_off(d) {
+                        lay_data(
+                            d,
+                            self.node,
+                            decoder::data(buffer, op, Cursor { at: end }),
+                            payload,
+                        );
+                        let slot = slots::slot_of(op, self.node as u8, self.state.round);
+                        let q = d.pending;
+                        match q {
+                            0 => {
+                                first = slot;
+                            }
+                            1 => {
+                                second = slot;
+                            }
+                            2 => {
+                                third = slot;
+                            }
+                            _ => {
+                                fourth = slot;
+                            }
                         }
                     }
                 }
-            }
-            Effect::Answer => {
-                answer(d, k, &buffer[at..end], queues);
-            }
-            Effect::Wake => {
-                if !bus_state::is_off(d) {
-                    wake(s, k, wakeups, queues);
-                    wakeups += 1;
+                Effect::Answer => {
+                    answer(d, self.node, &buffer[at..end], queues);
                 }
+                Effect::Wake => {
+                    if !bus_state::is_off(d) {
+                        self.wake(wakeups, queues);
+                        wakeups += 1;
+                    }
+                }
+                Effect::Nothing
+                | Effect::SetRate(..)
+                | Effect::SetBehaviour(_)
+                | Effect::SetStatus(_) => {}
             }
-            Effect::Nothing
-            | Effect::SetRate(..)
-            | Effect::SetBehaviour(_)
-            | Effect::SetStatus(_) => {}
+            d = after;
+            at = end;
         }
-        d = after;
-        at = end;
-    }
-    Change {
-        outcome: Ok(Done::Accepted),
-        state: state_left(s, k, wakeups, d),
-        at: start,
-        block: [first, second, third, fourth],
+        Change {
+            outcome: Ok(Done::Accepted),
+            state: self.state_left(wakeups, d),
+            at: start,
+            block: [first, second, third, fourth],
+        }
     }
 }
 
@@ -451,10 +469,10 @@ pub fn first_slot(node: u32) -> usize
 }
 
 // The sender's entry, where nothing refuses its buffer: NotAttached, BufferTooLong, then what the first step lacks that can't be done.
-fn checked(s: State, node: u32, buffer: &[u8]) -> Result<NodeState, Refusal>
-    requires { (s.count ≤ 8) × (node < s.count → (node_state s node).fill ≤ bytes_per_queue) }
-    ensures passed { IfOk result (Passed s node buffer.now) }
-    ensures refused { IfErr result (Refused s node buffer.now) }
+fn checked(s: &State, node: u32, buffer: &[u8]) -> Result<NodeState, Refusal>
+    requires { (s.now.count ≤ 8) × (node < s.now.count → (node_state s.now node).fill ≤ bytes_per_queue) }
+    ensures passed { IfOk result (Passed s.now node buffer.now) }
+    ensures refused { IfErr result (Refused s.now node buffer.now) }
 {
     if s.count <= node {
         return Err(Refusal::NotAttached);
@@ -462,9 +480,12 @@ fn checked(s: State, node: u32, buffer: &[u8]) -> Result<NodeState, Refusal>
     if LONGEST_BUFFER < buffer.len() {
         return Err(Refusal::BufferTooLong);
     }
-    let k = node as usize;
-    let d = bus_state::entry(s, k);
-    check_buffer(s, k, d, buffer)?;
+    let sender = Sender {
+        state: s,
+        node: node as usize,
+    };
+    let d = s.nodes[sender.node];
+    sender.check_buffer(d, buffer)?;
     Ok(d)
 }
 
@@ -484,8 +505,14 @@ pub fn submit(
     ensures inside { result.at + slots_per_node ≤ slot_count }
 {
     let at = first_slot(node);
-    match checked(s, node, buffer) {
-        Ok(d) => carry_buffer(s, at, node as usize, d, buffer, four, payload, queues),
+    match checked(&s, node, buffer) {
+        Ok(d) => {
+            let sender = Sender {
+                state: &s,
+                node: node as usize,
+            };
+            sender.carry_buffer(at, d, buffer, four, payload, queues)
+        }
         Err(refusal) => Change::refused(refusal, s, at, four),
     }
 }

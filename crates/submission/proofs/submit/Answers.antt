@@ -9,9 +9,8 @@ pub carry_buffer-requires : goal.carry_buffer-requires
 carry_buffer-requires c =
     let t = c.in-Ok.ensures.passed in
     record {
-      k_bound = (omega (arith, t.attached), omega arith, t.short);
-      value = (t.entry, rw t.entry (c.requires.1 t.attached));
-      s_value = t.goes;
+      value = (t.short, t.entry);
+      goes = t.goes;
     }
 
 pub returns-in-Err : goal.returns-in-Err

@@ -6,13 +6,14 @@ use Rattle.std.proofs.lemmas.Result.{err_from_is_err_and}
 use lib.ListN.{length}
 use mathlib.Core.Path.{◌≡◌, sym, ◌∙◌}
 use native.Mathlib.Omega.{arith}
-use Rattle.submission.proofs.check_buffer.Goals as goal
+use Rattle.submission.proofs.Sender.check_buffer.Goals as goal
 
 pub loop-step-init : goal.loop-step-init
 loop-step-init c =
-    let n : length c.args.s.nodes ≡ 8 = c.well_formed.0.1.1.1.1.0.1.0.1 in
-    let e = c.requires.value in
-    checking_first c.args.s c.args.k c.args.buffer.now c.args.entry c.requires.k_bound.1 n c.requires.k_bound.0 c.requires.k_bound.2 e.0 e.1
+    let n = c.args.self.now in
+    let s = n.state.now in
+    let e = c.requires.1 in
+    checking_first s n.node c.args.buffer.now c.args.entry n.few n.eight n.number c.requires.0 e (rw e n.own)
 
 pub overflow_sub-size : goal.overflow_sub-size
 overflow_sub-size c = omega (arith, c.in-Some.ensures.forward)
@@ -20,7 +21,7 @@ overflow_sub-size c = omega (arith, c.in-Some.ensures.forward)
 pub wakeups_have_room-requires : goal.wakeups_have_room-requires
 wakeups_have_room-requires c =
     let g = c.loop-step.invariant.stood in
-    (g.begun.few, omega (arith, g.counted, g.within, g.short))
+    omega (arith, g.counted, g.within, g.short)
 
 pub returns-then-not-wakeups_have_room : goal.returns-then-not-wakeups_have_room
 returns-then-not-wakeups_have_room c =
@@ -67,4 +68,4 @@ pub returns : goal.returns
 returns c =
     let l = c.loop-step in
     let a = c.args in
-    sym (check-end a.buffer.now l.at a.k (stand a.s a.k l.wakeups l.d) c.in_default.ensures) ∙ l.invariant.decides
+    sym (check-end a.buffer.now l.at a.self.now.node (stand a.self.now.state.now a.self.now.node l.wakeups l.d) c.in_default.ensures) ∙ l.invariant.decides

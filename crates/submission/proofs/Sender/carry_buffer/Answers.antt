@@ -6,12 +6,14 @@ use Rattle.submission.proofs.Walks.{memory-end}
 use lib.ListN.{length}
 use mathlib.Core.Path.{◌≡◌, refl, sym, ◌∙◌}
 use native.Mathlib.Omega.{arith}
-use Rattle.submission.proofs.carry_buffer.Goals as goal
+use Rattle.submission.proofs.Sender.carry_buffer.Goals as goal
 
 pub loop-step-init : goal.loop-step-init
 loop-step-init c =
-    let n : length c.args.s.nodes ≡ 8 = c.well_formed.0.1.1.1.1.0.1.0.1 in
-    going_first c.args.s c.args.k c.args.buffer.now c.args.entry _ c.args.payload.now c.args.queues.now c.requires.k_bound.1 n c.requires.k_bound.0 c.requires.k_bound.2 c.requires.value.0 c.requires.value.1 refl c.requires.s_value
+    let n = c.args.self.now in
+    let s = n.state.now in
+    let v = c.requires.value in
+    going_first s n.node c.args.buffer.now c.args.entry _ c.args.payload.now c.args.queues.now n.few n.eight n.number v.0 v.1 (rw v.1 n.own) refl c.requires.goes
 
 pub overflow_sub-end : goal.overflow_sub-end
 overflow_sub-end c = omega (arith, c.in-Some.ensures.forward)
@@ -26,10 +28,7 @@ lay_data-requires c =
     let t = c.in-Some.ensures in
     let g = c.loop-step.invariant in
     let q = c.in-Transmit.is in
-    (g.stood.begun.number, turn_few g _ t q (sym c.is_off.ensures ∙ c.if-not-is_off.true), rw c.«data».ensures (t.fit _ q).1)
-
-pub overflow_cast-k : goal.overflow_cast-k
-overflow_cast-k c = omega (arith, c.loop-step.invariant.stood.begun.number)
+    (c.args.self.now.number, turn_few g _ t q (sym c.is_off.ensures ∙ c.if-not-is_off.true), rw c.«data».ensures (t.fit _ q).1)
 
 pub slice_bounds-answer-count : goal.slice_bounds-answer-count
 slice_bounds-answer-count c = omega (arith, c.in-Some.ensures.forward)
@@ -43,13 +42,13 @@ slice_bounds-answer-end c = let t = c.in-Some.ensures in omega (arith, t.forward
 pub answer-requires : goal.answer-requires
 answer-requires c =
     let g = c.loop-step.invariant in
-    (g.stood.begun.number, turn_fits g _ c.in-Some.ensures c.in-Answer.is)
+    (c.args.self.now.number, turn_fits g _ c.in-Some.ensures c.in-Answer.is)
 
 pub wake-requires : goal.wake-requires
 wake-requires c =
     let g = c.loop-step.invariant in
     let o = g.stood in
-    (o.begun.few, omega (arith, o.counted, o.within, o.short), turn_room g _ c.in-Some.ensures c.in-Wake.is (sym c.is_off-in-Wake.ensures ∙ c.if-not-is_off-2.true))
+    (omega (arith, o.counted, o.within, o.short), turn_room g _ c.in-Some.ensures c.in-Wake.is (sym c.is_off-in-Wake.ensures ∙ c.if-not-is_off-2.true))
 
 pub overflow_add-wakeups : goal.overflow_add-wakeups
 overflow_add-wakeups c =
@@ -135,14 +134,15 @@ loop-step-preserved c =
 pub state_left-requires : goal.state_left-requires
 state_left-requires c =
     let g = c.loop-step.invariant.stood in
-    (g.begun.number, g.begun.few, omega (arith, g.counted, g.within, g.short), g.room)
+    (omega (arith, g.counted, g.within, g.short), g.room)
 
 pub returns : goal.returns
 returns c =
     let l = c.loop-step in
     let s = c.args.buffer.now in
-    let e = four-slots c.args.four c.well_formed.1.1.1.1.1.0.1.0.1 in
+    let k = c.args.self.now.node in
+    let e = four-slots c.args.four c.well_formed.1.1.1.1.0.1.0.1 in
     record {
       outcome = (refl, refl);
-      memory = λ slots. rw c.state_left.ensures (sym (memory-end s l.at c.args.k _ c.in_default.ensures) ∙ l.invariant.gives slots ∙ rw e);
+      memory = λ slots. rw c.state_left.ensures (sym (memory-end s l.at k _ c.in_default.ensures) ∙ l.invariant.gives slots ∙ rw e);
     }
