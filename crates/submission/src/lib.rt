@@ -132,19 +132,18 @@ fn is_unreached(d: NodeState, k: usize, j: usize) -> bool
 
 // The fill of node j's queue with u of them.
 #[tactic(auto, unfolding(crate::specs::Counting::wakeup_length))]
-fn fill_woken(d: NodeState, k: usize, u: usize, j: usize) -> usize
-    requires { u ≤ bytes_per_queue }
+fn fill_woken(d: NodeState, k: usize, u: u32, j: usize) -> usize
     ensures { result ≡ fill_woken d k u j }
 {
     let fill = d.fill as usize;
     if is_unreached(d, k, j) {
         return fill;
     }
-    fill + u * operation::WAKEUP_LENGTH
+    fill + u as usize * operation::WAKEUP_LENGTH
 }
 
-fn entry_woken(d: NodeState, k: usize, u: usize, j: usize) -> NodeState
-    requires { (u ≤ bytes_per_queue) × (fill_woken d k u j ≤ bytes_per_queue) }
+fn entry_woken(d: NodeState, k: usize, u: u32, j: usize) -> NodeState
+    requires { fill_woken d k u j ≤ bytes_per_queue }
     ensures { result ≡ entry_woken d k u j }
 {
     bus_state::with_fill(d, fill_woken(d, k, u, j) as u16)
@@ -271,8 +270,8 @@ fn answer(d: NodeState, k: usize, bytes: &[u8], queues: &mut [u8; QUEUE_BYTES])
 }
 
 // Puts one more Wakeup of node k, behind u of them, into the queue of node j.
-fn wake_at(d: NodeState, k: usize, u: usize, j: usize, queues: &mut [u8; QUEUE_BYTES])
-    requires { (j < 8) × (u < bytes_per_queue) × (fill_woken d k (u + 1) j ≤ bytes_per_queue) }
+fn wake_at(d: NodeState, k: usize, u: u32, j: usize, queues: &mut [u8; QUEUE_BYTES])
+    requires { (j < 8) × (fill_woken d k (u + 1) j ≤ bytes_per_queue) }
     ensures { queues.new ≡ wakeup_laid d k u j queues.old }
 {
     if is_unreached(d, k, j) {
@@ -299,8 +298,7 @@ struct Sender<'a> {
 
 impl<'a> Sender<'a> {
     // Whether every queue has room for u of its Wakeups.
-    fn wakeups_have_room(&self, u: usize) -> bool
-        requires { u ≤ bytes_per_queue }
+    fn wakeups_have_room(&self, u: u32) -> bool
         ensures { result ≡ wakeup_room self.now.state.now.nodes self.now.node u 0 self.now.state.now.count }
     {
         for j in 0..self.state.count as usize {
@@ -313,8 +311,8 @@ impl<'a> Sender<'a> {
     }
 
     // The state with u of its Wakeups.
-    fn woken(&self, u: usize) -> State
-        requires { (u ≤ bytes_per_queue) × (wakeup_room self.now.state.now.nodes self.now.node u 0 self.now.state.now.count ≡ true) }
+    fn woken(&self, u: u32) -> State
+        requires { wakeup_room self.now.state.now.nodes self.now.node u 0 self.now.state.now.count ≡ true }
         ensures { result ≡ woken_by self.now.state.now self.now.node u }
     {
         let mut nodes = self.state.nodes;
@@ -335,7 +333,7 @@ impl<'a> Sender<'a> {
         ensures { result ≡ check_items self.now.node (items_of buffer.now) self.now.state.now }
     {
         let mut d = entry;
-        let mut wakeups: usize = 0;
+        let mut wakeups: u32 = 0;
         let mut at: usize = 0;
         while let Some(step) = step_at(buffer, at) {
             let effect = step.effect;
@@ -355,8 +353,8 @@ impl<'a> Sender<'a> {
     }
 
     // Puts one more of its Wakeups, behind u of them, into the queue of every other node that is not Bus-Off.
-    fn wake(&self, u: usize, queues: &mut [u8; QUEUE_BYTES])
-        requires { (u < bytes_per_queue) × (wakeup_room self.now.state.now.nodes self.now.node (u + 1) 0 self.now.state.now.count ≡ true) }
+    fn wake(&self, u: u32, queues: &mut [u8; QUEUE_BYTES])
+        requires { wakeup_room self.now.state.now.nodes self.now.node (u + 1) 0 self.now.state.now.count ≡ true }
         ensures { queues.new ≡ wakeups_laid self.now.state.now.nodes self.now.node u 0 self.now.state.now.count queues.old }
     {
         for j in 0..self.state.count as usize {
@@ -366,8 +364,8 @@ impl<'a> Sender<'a> {
     }
 
     // The state after all steps: with u of its Wakeups, and its entry.
-    fn state_left(&self, u: usize, d: NodeState) -> State
-        requires { (u ≤ bytes_per_queue) × (0 < u → wakeup_room self.now.state.now.nodes self.now.node u 0 self.now.state.now.count ≡ true) }
+    fn state_left(&self, u: u32, d: NodeState) -> State
+        requires { 0 < u → wakeup_room self.now.state.now.nodes self.now.node u 0 self.now.state.now.count ≡ true }
         ensures { result ≡ with_entry (woken_by self.now.state.now self.now.node u) self.now.node d }
     {
         if u == 0 {
@@ -398,7 +396,7 @@ impl<'a> Sender<'a> {
         let mut third = four[2];
         let mut fourth = four[3];
         let mut d = entry;
-        let mut wakeups: usize = 0;
+        let mut wakeups: u32 = 0;
         let mut at: usize = 0;
         while let Some(step) = step_at(buffer, at) {
             let effect = step.effect;

@@ -14,7 +14,7 @@ returns-then-is_unreached c = rw (← c.is_unreached.ensures, c.if-is_unreached.
 pub lay_wakeup-requires : goal.lay_wakeup-requires
 unfolding wakeup_length
 lay_wakeup-requires c =
-    let p = rw (← c.is_unreached.ensures, c.if-is_unreached.false) at c.requires.2 in
+    let p = rw (← c.is_unreached.ensures, c.if-is_unreached.false) at c.requires.1 in
     let f = rw (← c.is_unreached.ensures, c.if-is_unreached.false) at c.fill_woken.ensures in
     let room : length c.args.queues.now ≡ 32_768 = search rules in
     omega arith

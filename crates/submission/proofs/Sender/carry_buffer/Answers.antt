@@ -3,7 +3,6 @@ use Rattle.submission.proofs.Carries.{quiet_rest}
 use Rattle.submission.proofs.Takes.{step-smaller}
 use Rattle.submission.proofs.Turns.{going_first, turn_can, turn_few, turn_fits, turn_room, quiet-turn, answer-turn, wake-turn, frame-turn}
 use Rattle.submission.proofs.Walks.{memory-end}
-use lib.ListN.{length}
 use mathlib.Core.Path.{◌≡◌, refl, sym, ◌∙◌}
 use native.Mathlib.Omega.{arith}
 use Rattle.submission.proofs.Sender.carry_buffer.Goals as goal
@@ -46,9 +45,7 @@ answer-requires c =
 
 pub wake-requires : goal.wake-requires
 wake-requires c =
-    let g = c.loop-step.invariant in
-    let o = g.stood in
-    (omega (arith, o.counted, o.within, o.short), turn_room g _ c.in-Some.ensures c.in-Wake.is (sym c.is_off-in-Wake.ensures ∙ c.if-not-is_off-2.true))
+    turn_room c.loop-step.invariant _ c.in-Some.ensures c.in-Wake.is (sym c.is_off-in-Wake.ensures ∙ c.if-not-is_off-2.true)
 
 pub overflow_add-wakeups : goal.overflow_add-wakeups
 overflow_add-wakeups c =
@@ -132,9 +129,7 @@ loop-step-preserved c =
     quiet-turn c.loop-step.invariant _ c.in-Some.ensures c.entry_after-after.ensures (quiet_rest c.loop-step.d c.in-Nothing.is)
 
 pub state_left-requires : goal.state_left-requires
-state_left-requires c =
-    let g = c.loop-step.invariant.stood in
-    (omega (arith, g.counted, g.within, g.short), g.room)
+state_left-requires c = c.loop-step.invariant.stood.room
 
 pub returns : goal.returns
 returns c =

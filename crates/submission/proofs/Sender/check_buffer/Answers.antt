@@ -3,8 +3,7 @@ use Rattle.submission.proofs.Takes.{step-smaller}
 use Rattle.submission.proofs.Turns.{checking_first, full-checked, wakeup-checked, entry-refused, entry-checked}
 use Rattle.submission.proofs.Walks.{check-end}
 use Rattle.std.proofs.lemmas.Result.{err_from_is_err_and}
-use lib.ListN.{length}
-use mathlib.Core.Path.{◌≡◌, sym, ◌∙◌}
+use mathlib.Core.Path.{sym, ◌∙◌}
 use native.Mathlib.Omega.{arith}
 use Rattle.submission.proofs.Sender.check_buffer.Goals as goal
 
@@ -17,11 +16,6 @@ loop-step-init c =
 
 pub overflow_sub-size : goal.overflow_sub-size
 overflow_sub-size c = omega (arith, c.in-Some.ensures.forward)
-
-pub wakeups_have_room-requires : goal.wakeups_have_room-requires
-wakeups_have_room-requires c =
-    let g = c.loop-step.invariant.stood in
-    omega (arith, g.counted, g.within, g.short)
 
 pub returns-then-not-wakeups_have_room : goal.returns-then-not-wakeups_have_room
 returns-then-not-wakeups_have_room c =

@@ -11,7 +11,7 @@ returns-then-u-eq0 c =
     rw (c.with_entry.ensures, c.if-u-eq0.true, woken_none s.nodes n.node 0 s.count)
 
 pub woken-requires : goal.woken-requires
-woken-requires c = (c.requires.0, c.requires.1 (omega (arith, c.if-u-eq0.false)))
+woken-requires c = c.requires (omega (arith, c.if-u-eq0.false))
 
 pub returns : goal.returns
 returns c = rw (c.with_entry-2.ensures, c.woken.ensures)

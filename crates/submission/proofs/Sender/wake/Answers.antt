@@ -9,7 +9,7 @@ pub loop-j-init : goal.loop-j-init
 loop-j-init c =
     let count = c.args.self.now.state.now.count in
     let all : count - 0 ≡ count = omega arith in
-    record { room = rw all c.requires.1; given = rw all }
+    record { room = rw all c.requires; given = rw all }
 
 pub wake_at-requires : goal.wake_at-requires
 wake_at-requires c =
@@ -17,7 +17,7 @@ wake_at-requires c =
     let a = c.args in
     let n = a.self.now in
     let s = n.state.now in
-    (omega arith, omega arith, (room-here s.nodes n.node (a.u + 1) l.j s.count (omega arith) l.invariant.room).0)
+    (omega arith, (room-here s.nodes n.node (a.u + 1) l.j s.count (omega arith) l.invariant.room).0)
 
 pub loop-j-preserved : goal.loop-j-preserved
 loop-j-preserved c =

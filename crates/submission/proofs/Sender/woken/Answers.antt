@@ -1,6 +1,6 @@
 use Prim.Native.Nat.{◌-◌}
 use Rattle.submission.proofs.Wakes.{room-here, room-past, woken_step, woken_end}
-use lib.ListN.{length, length-set}
+use lib.ListN.{length-set}
 use mathlib.Core.Path.{◌≡◌, sym, ◌∙◌}
 use native.Mathlib.Numerals.{add-one}
 use native.Mathlib.Omega.{arith}
@@ -10,7 +10,7 @@ pub loop-j-init : goal.loop-j-init
 loop-j-init c =
     let count = c.args.self.now.state.now.count in
     let all : count - 0 ≡ count = omega arith in
-    record { size = c.args.self.now.eight; room = rw all c.requires.1; given = rw all }
+    record { size = c.args.self.now.eight; room = rw all c.requires; given = rw all }
 
 pub entry_woken-requires : goal.entry_woken-requires
 entry_woken-requires c =
@@ -18,7 +18,7 @@ entry_woken-requires c =
     let a = c.args in
     let n = a.self.now in
     let s = n.state.now in
-    (omega arith, (room-here l.nodes n.node a.u l.j s.count (omega arith) l.invariant.room).0)
+    (room-here l.nodes n.node a.u l.j s.count (omega arith) l.invariant.room).0
 
 pub loop-j-preserved : goal.loop-j-preserved
 loop-j-preserved c =
