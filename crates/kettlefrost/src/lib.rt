@@ -4,7 +4,7 @@
 pub mod layout;
 pub mod register;
 
-ghost use Rattle.std.specs.Prelude.{◌≡◌, length, ◌+◌, ◌<◌, ◌^◌};
+ghost use Rattle.std.specs.Prelude.{◌≡◌, length, ◌+◌, ◌<◌};
 ghost use Rattle.decoder.specs.Front.{decode};
 ghost use Rattle.decoder.specs.Reading.{read_at};
 ghost use Rattle.bus_state.specs.Memory.{held};
@@ -353,6 +353,7 @@ pub fn kf_write(operation: FlatOperation, payload: &[u8], buffer: &mut [u8]) -> 
 
 // The calls of the bus. They go over the pending slots once, in place, call the bus with that pass's key and what they need of the slots,
 // and put back those that changed; a start sets all of them.
+// Stays: a state and the lent memory are parameters of each, as C passes them.
 
 pub fn kf_start(slots: &mut [Slot], payload: &[u8], queues: &[u8], count: u32) -> Answer
     ensures { left result slots.new payload.now queues.now ≡ leaves (start_in (held (new_state 0) slots.old payload.now queues.now) count) }

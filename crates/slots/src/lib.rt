@@ -44,6 +44,7 @@ pub fn free() -> Slot
 }
 
 // The Transmit that a slot holds.
+// Stays: C's slot has a number for its kind, which may be any; a match on it is one test a kind (kf_submit).
 #[tactic(auto, unfolding(crate::specs::Slots::content_of))]
 pub fn content_of(s: Slot) -> Option<Operation>
     ensures { result ≡ content_of s }
