@@ -10,6 +10,7 @@ use operation::{Code, Operation};
 
 // What a pending frame needs besides its data: its sender, the round at which it was accepted, and the Transmit. kind is the
 // code of the Transmit, and any other number in a slot that holds none; first to fourth are the one-byte fields in their order.
+// Stays: kind is a number, which may be any, since C hands slots over (kf_submit).
 #[repr(C)]
 #[derive(Clone, Copy)]
 pub struct Slot {
