@@ -2,25 +2,24 @@
 // This is for the bus crate above: what is required its caller must meet.
 #![tactic(auto)]
 
-ghost use Rattle.std.specs.Prelude.{◌≡◌, true, List, [], ◌+◌, ◌-◌, ◌*◌, ◌≤◌, ◌<◌, length, Option, Some};
+ghost use Rattle.std.specs.Prelude.{◌≡◌, true, List, ◌+◌, ◌-◌, ◌*◌, ◌≤◌, ◌<◌, length, Option, Some};
 ghost use Rattle.operation.specs.Kinds.{id_of};
 ghost use Rattle.operation.specs.Format.{data_length, length_of, encode};
 ghost use Rattle.operation.specs.Rules.{legal, max_extended_id};
 ghost use Rattle.buffers.specs.Parts.{over};
-ghost use Rattle.slots.specs.Slots.{content_of, held_in};
+ghost use Rattle.slots.specs.Slots.{held_in};
 ghost use Rattle.plain_bus.specs.Held.{last_round};
 ghost use Rattle.plain_bus.specs.Order.{wins};
 ghost use Rattle.plain_bus.specs.Round.{injection_from};
-ghost use Rattle.bus_state.specs.Memory.{node_state, held, slot_count, slots_per_node, bytes_per_slot, bytes_per_queue, is_off};
+ghost use Rattle.bus_state.specs.Memory.{held, slot_count, slots_per_node, bytes_per_slot, bytes_per_queue, is_off};
 ghost use Rattle.bus_model.specs.Round.{pending_at};
 ghost use Rattle.bus_model.specs.Calls.{arbitrate_in, rounded};
 ghost use Rattle.outcome.specs.Ended.{ended_by, ended};
 ghost use Rattle.arbitration.specs.Injections.{injection_of, has_legal_code, is_wrong};
-ghost use Rattle.scan.specs.Winner.{held_at, owner_of};
+ghost use Rattle.scan.specs.Winner.{owner_of};
 ghost use Rattle.arbitration.specs.Drawn.{Drawn};
-ghost use Rattle.arbitration.specs.Owed.{Writable, Frames, Tellable, PendingAt, discards, discarded, losers, told_count, stay_count, flag_at, news_to, notice_of, news_length, owed_length, room_from};
+ghost use Rattle.arbitration.specs.Owed.{Frames, Tellable, PendingAt, discards, discarded, losers, told_count, stay_count, flag_at, news_to, notice_of, news_length, owed_length, room_from};
 ghost use Rattle.arbitration.specs.After.{entry_after, state_after, queues_after, source, block_without, payload_without};
-ghost use Rattle.arbitration.specs.Round.{carried_out};
 
 use bus_state::{NodeState, PAYLOAD_BYTES, QUEUE_BYTES, State};
 use operation::Operation;

@@ -1,7 +1,7 @@
 // Reading operations from a buffer: what stands at a position, and where the data of an operation lie.
 #![tactic(auto, unfolding(crate::specs::Front::shape_of, crate::specs::Front::verdict, crate::specs::Front::judge))]
 
-ghost use Rattle.std.specs.Prelude.{◌≡◌, not, ◌||◌, ◌+◌, ◌^◌, ◌≤◌, ◌<◌, length, get_or, eqb, leb};
+ghost use Rattle.std.specs.Prelude.{◌≡◌, not, ◌||◌, ◌+◌, ◌^◌, ◌<◌, length, get_or, eqb};
 ghost use Rattle.operation.specs.Number.{number_at};
 ghost use Rattle.operation.specs.Rules.{legal};
 ghost use Rattle.decoder.specs.Front.{fault_number, format_error, can, fd, xl, confirm, arbitration_lost, bus_error, configuration, status, wakeup, setting_of, shape_of, too_short, verdict, judge, decode, whole_length, front};

@@ -4,7 +4,7 @@
 pub mod layout;
 pub mod register;
 
-ghost use Rattle.std.specs.Prelude.{◌≡◌, length, ◌+◌, ◌<◌, ◌^◌};
+ghost use Rattle.std.specs.Prelude.{◌≡◌, length, ◌+◌, ◌<◌};
 ghost use Rattle.decoder.specs.Front.{decode};
 ghost use Rattle.decoder.specs.Reading.{read_at};
 ghost use Rattle.bus_state.specs.Memory.{held};

@@ -6,7 +6,7 @@ ghost use Rattle.std.specs.Prelude.{◌≡◌, ◌≤◌, ◌&&◌};
 ghost use Rattle.operation.specs.Format.{head_length, data_length, configuration_length};
 ghost use Rattle.operation.specs.Tables.{code_number, code_from, error_code_from, error_flag_from, status_from, configuration_kind_from, behaviour_from};
 ghost use Rattle.operation.specs.Tables.{error_code_name, error_flag_name, status_name, configuration_kind_name, behaviour_name};
-ghost use Rattle.operation.specs.Rules.{is_bit, max_id, one_of, fd_length, can_length, remote_rule, error_codes, error_flags, behaviours, setting_rule, legal};
+ghost use Rattle.operation.specs.Rules.{is_bit, max_id, one_of, fd_length, can_length, remote_rule, error_codes, error_flags, behaviours, legal};
 
 // Largest IDs of 11 and 29 bits.
 pub const MAX_STANDARD_ID: u32 = 2047;

@@ -6,7 +6,7 @@ ghost use Rattle.std.specs.Prelude.{◌≡◌, ◌&&◌, leb, ◌+◌, ◌≤◌
 ghost use Rattle.bus_state.specs.Memory.{slot_count, slots_per_node};
 ghost use Rattle.scan.specs.Winner.{Small};
 ghost use Rattle.scan.specs.declared.Winner.{Winner};
-ghost use Rattle.scan.specs.Scan.{key_of, winner_block, lower_of, step_of, run_key, begun, entry_key, frame_count, attached_count, first_key};
+ghost use Rattle.scan.specs.Scan.{key_of, winner_block, step_of, run_key, begun, entry_key, frame_count, attached_count, first_key};
 
 use bus_state::{NodeState, State};
 use slots::Slot;
