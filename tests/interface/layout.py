@@ -34,7 +34,7 @@ NAMED = {
 INNER = {"bus_state::BYTES_PER_SLOT", "operation::CONFIRM_LENGTH",
          "operation::ARBITRATION_LOST_LENGTH", "operation::BUS_ERROR_LENGTH",
          "operation::WAKEUP_LENGTH", "operation::FORMAT_ERROR_HEAD"}
-# The standard's tables in operation: how the header calls a case; and cases that it calls otherwise.
+# The tables in operation: how the header calls a case; and cases that it calls otherwise.
 TABLES = {"Code": "{}", "ErrorCode": "{}", "ErrorFlag": "{}_ERROR_FLAG", "ConfigurationKind": "{}",
           "LostBehavior": "{}", "NodeStatus": "{}"}
 CASES = {"FdTransmit": "CAN_FD_TRANSMIT", "XlTransmit": "CAN_XL_TRANSMIT"}

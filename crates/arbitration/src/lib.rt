@@ -28,6 +28,7 @@ use scan::Winner;
 use slots::Slot;
 
 // An error injected into a round: its code, and the number of the node that detects it.
+// Stays: numbers, since kf_round takes any: those of no code or node are refused with 6 (is_wrong).
 #[derive(Clone, Copy)]
 pub struct Injection {
     pub code: u32,

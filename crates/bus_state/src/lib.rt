@@ -12,6 +12,7 @@ use slots::Slot;
 
 // What is held of one node besides its frames and its queue's bytes: its pending frames are slots 4j to 4j + pending - 1 of node j,
 // oldest first, and its queue the first fill bytes from 4,096 j on.
+// Stays: numbers, with any value in them, and no invariant, since C hands the state over (kf_submit).
 #[repr(C)]
 #[derive(Clone, Copy)]
 pub struct NodeState {
@@ -104,7 +105,7 @@ pub fn slot_follows(s: Slot, owner: u8, low: u32) -> bool
 
 // Reading and setting one entry and its fields, for the crates above: what is asked of j they must meet.
 
-// Half of the entries are copied: a copy of all of them is a call.
+// Stays: from its half of the entries, since a copy of all was tried and is slower (docs/notes/00-base-speed.md).
 pub fn entry(s: State, j: usize) -> NodeState
     requires { j < 8 }
     ensures { result ≡ node_state s j }
@@ -118,45 +119,40 @@ pub fn entry(s: State, j: usize) -> NodeState
     high[j - 4]
 }
 
-pub fn with_entry(mut s: State, j: usize, d: NodeState) -> State
+pub fn with_entry(s: State, j: usize, d: NodeState) -> State
     requires { j < 8 }
     ensures { result ≡ with_entry s j d }
 {
     let mut nodes = s.nodes;
     nodes[j] = d;
-    s.nodes = nodes;
-    s
+    State { nodes, ..s }
 }
 
-pub fn with_fill(mut d: NodeState, fill: u16) -> NodeState
+pub fn with_fill(d: NodeState, fill: u16) -> NodeState
     ensures { result ≡ entry_fill d fill }
 {
-    d.fill = fill;
-    d
+    NodeState { fill, ..d }
 }
 
-pub fn with_pending(mut d: NodeState, pending: u8) -> NodeState
+pub fn with_pending(d: NodeState, pending: u8) -> NodeState
     ensures { result ≡ entry_pending d pending }
 {
-    d.pending = pending;
-    d
+    NodeState { pending, ..d }
 }
 
-pub fn with_status(mut d: NodeState, status: u8) -> NodeState
+pub fn with_status(d: NodeState, status: u8) -> NodeState
     ensures { result ≡ entry_status d status }
 {
-    d.status = status;
-    d
+    NodeState { status, ..d }
 }
 
-pub fn with_behaviour(mut d: NodeState, behaviour: u8) -> NodeState
+pub fn with_behaviour(d: NodeState, behaviour: u8) -> NodeState
     ensures { result ≡ entry_behaviour d behaviour }
 {
-    d.behaviour = behaviour;
-    d
+    NodeState { behaviour, ..d }
 }
 
-// By constant indices, so that an entry stays in registers.
+// Stays: by constant indices, since `rates[i] = rate` was tried and is slower (docs/notes/00-base-speed.md).
 #[tactic(auto, using(crate::proofs::Arrays::set_of_three))]
 pub fn with_rate(mut d: NodeState, i: usize, rate: u32) -> NodeState
     requires { i < 3 }

@@ -53,7 +53,9 @@ fn decode(rt: HostRuntime, path: &[u8]) -> Result<(), Failure> {
 // A line to standard error: what failed, a colon and why. What a failed write leaves out is not written again.
 fn say<W: Display + Drop>(mut err: Stderr, what: &[u8], why: W) {
     let _ = err.write_all(what);
-    let _ = writeln!(err, ": {why}");
+    let _ = err.write_all(b": ");
+    let _ = write!(err, "{why}");
+    let _ = err.write_all(b"\n");
 }
 
 fn main(rt: HostRuntime) {

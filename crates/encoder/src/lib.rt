@@ -62,7 +62,7 @@ fn put_start(buffer: &mut [u8], code: Code, size: u32)
 }
 
 // Writing one kind: the answer, then the header and the data behind it. A caller that has the kind needs no `Operation`.
-// Stays: ten functions, since kf_write calls each by its fields; what is alike in them is already `decide`, `put_start` and `put`.
+// Stays: ten public functions, which docs/READING.md names; what is alike in them is `decide`, `put_start` and `put`.
 
 pub fn write_format_error(n: u16, payload: &[u8], buffer: &mut [u8]) -> Result<usize, WriteError>
     ensures answer { result ≡ write_outcome (Operation.FormatError n) (length payload.now) (length buffer.old) }

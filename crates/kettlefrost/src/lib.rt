@@ -24,6 +24,7 @@ use slots::Slot;
 
 // An operation: its code, and its fields in the order of the table; 0 where its kind has no such field. word is AF, or the value
 // of a Configuration; length is DL or n; first to fourth are the one-byte fields.
+// Stays: numbers and flags in this record and the next three, as C has them (kf_read, kf_data, kf_write).
 #[repr(C)]
 #[derive(Clone, Copy)]
 pub struct FlatOperation {
@@ -241,7 +242,8 @@ fn answer_item(item: Result<Operation, Fault>, next: usize) -> ReadAnswer
     }
 }
 
-// The bytes of one operation by its code: a reader a kind, so that the operation goes through no memory.
+// The bytes of one operation by its code.
+// Stays: the ten arms of decoder's read_operation again: a reader a kind was tried against it and is quicker (docs/notes/00-base-speed.md).
 #[tactic(auto, using(decoder::proofs::Codes::kind_by_code), unfolding(decoder::specs::Front::decode, decoder::specs::Front::shape_of, decoder::specs::Front::judge))]
 fn read_named(t: &[u8], next: usize) -> ReadAnswer
     ensures { result ≡ item_answer (decode t.now) next }
@@ -308,7 +310,8 @@ fn length_written(w: Result<usize, WriteError>) -> usize
     w.unwrap_or(0)
 }
 
-// Writes by the code: no operation is built on the way.
+// Writes by the code.
+// Stays: the ten arms of encoder's write again: building the operation first was tried and is slower (docs/notes/00-base-speed.md).
 #[tactic(auto, using(crate::proofs::Tables::named_by))]
 fn write_named(f: FlatOperation, payload: &[u8], buffer: &mut [u8]) -> Result<usize, WriteError>
     ensures answer { result ≡ answer_named (named f) (length payload.now) (length buffer.old) }

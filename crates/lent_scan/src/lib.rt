@@ -33,7 +33,13 @@ pub fn scan(slots: &[Slot; 32], s: State) -> u64
     let mut key = scan::first_key(s);
     for j in 0..scan::attached(s) {
         let d = nodes[j];
-        key = frames_key(slots, scan::entry_key(d, key), scan::frame_count(d), j, s.round);
+        key = frames_key(
+            slots,
+            scan::entry_key(d, key),
+            scan::frame_count(d),
+            j,
+            s.round,
+        );
     }
     key
 }

@@ -20,7 +20,7 @@ pub fn block_at(slots: &[Slot], at: usize) -> [Slot; 4]
 pub fn ids(slots: &[Slot; 32]) -> [u32; 32]
     ensures { result ≡ map (λ (x : Slot). x.id) slots.now }
 {
-    // Stays: slots.map(|x| x.id) copies all slots first.
+    // Stays: slots.map(|x| x.id) copies all slots first, and array::from_fn leaves its equation with `map` open.
     let mut ids = [0; 32];
     for p in 0..slots.len() {
         ids[p] = slots[p].id;

@@ -27,7 +27,7 @@ impl Model for Line {
 }
 
 // The hexadecimal digit of a number.
-// Stays: the library's are in lower case (char::from_digit, io::hex).
+// Stays: upper case (hex_digit), which the programs print; the library's digits are in lower case.
 fn digit(d: u8) -> u8
     requires { d < 16 }
     ensures { result ≡ hex_digit d }

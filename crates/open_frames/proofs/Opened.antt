@@ -9,9 +9,9 @@ use Rattle.std.proofs.lemmas.List.{length-replicate}
 use Rattle.std.proofs.Math.Seq.{length-take-le}
 use Rattle.std.specs.List.{position, position_or_len, list_all, remove}
 use mir.Val.{bool_byte}
-use borrow.Author.Tests.{lt-leb, le-leb, leb-true, leb-false}
+use borrow.Author.Tests.{lt-leb, le-leb, leb-true, leb-false, eq-eqb, ne_eqb}
 use Rattle.operation.specs.Rules.{max_extended_id}
-use Rattle.plain_bus.specs.Refusal.{register_differs}
+use Rattle.plain_bus.specs.Refusal.{register_differs, register_full}
 use Rattle.plain_bus.specs.Register as plain
 use Rattle.open_frames.specs.Record.{open_in}
 use Rattle.open_frames.specs.declared.Register.{Register}
@@ -116,3 +116,17 @@ pub ruleset closing = (closes_none, closes_at)
 pub off_is : (b : Bool) → bool_byte b ≡ cond b 1 0
 off_is true = refl
 off_is false = refl
+
+-- ---- opening, of C's record
+
+-- a register that is Bus-Off opens nothing
+pub open_off : (r : Register) (id : ℕ) → (r.off ≡ 0 → ⊥) → plain.updated (open_in r) ≡ plain.open_id (open_in r) id
+unfolding plain.open_id open_in
+open_off r id h = rw (ne_eqb r.off 0 h)
+
+-- and one with 345 open IDs refuses one more
+pub open_full : (r : Register) (id : ℕ) (k : length r.ids ≡ 345) → r.off ≡ 0 → r.count ≤ 345 → 345 ≤ r.count
+    → plain.rejected register_full ≡ plain.open_id (open_in r) id
+unfolding plain.open_id
+open_full r id k on h g =
+    rw (within r k h, eq-eqb r.off 0 on, length-take-le r.count r.ids (omega arith), le-leb 345 r.count g)

@@ -115,6 +115,7 @@ pub enum ErrorFlag {
     Secondary = 2,
 }
 
+// Stays: an impl a table, each with its law (try_from_gives): a trait of std has no impl for all of our enums at once.
 impl TryFrom<u8> for ErrorFlag {
     type Error = NotInTable;
 
@@ -256,6 +257,7 @@ pub const WAKEUP_LENGTH: usize = 8;
 
 pub const FORMAT_ERROR_HEAD: usize = 10;
 
+// Stays: fields are numbers, since an operation may break a rule: write refuses it with 7 (write_outcome).
 #[derive(Clone, Copy, Debug, PartialEq, Eq)]
 pub enum Operation {
     FormatError {

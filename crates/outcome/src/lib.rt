@@ -74,6 +74,7 @@ impl Change {
 
 // What a public call answers: the number of 01; of a round that is carried out sender, ID, whether errored, and age, or that it
 // was idle; of a collect the length; and the state. What a call has no value for is 0.
+// Stays: a number with flags and values beside it, as C has it (kf_round).
 #[repr(C)]
 #[derive(Clone, Copy)]
 pub struct Answer {

@@ -51,7 +51,12 @@ impl Bus {
         ensures state { self.new.state ≡ result.state }
     {
         let answer = kettlefrost::kf_submit(
-            self.state, &mut self.slots, payload, queues, node, buffer,
+            self.state,
+            &mut self.slots,
+            payload,
+            queues,
+            node,
+            buffer,
         );
         self.state = answer.state;
         answer
@@ -69,26 +74,31 @@ impl Bus {
         ensures state { self.new.state ≡ result.state }
     {
         let answer = kettlefrost::kf_round(
-            self.state, &mut self.slots, payload, queues, injected, code, detector,
+            self.state,
+            &mut self.slots,
+            payload,
+            queues,
+            injected,
+            code,
+            detector,
         );
         self.state = answer.state;
         answer
     }
 
     // No slot changes.
-    pub fn collect(
-        &mut self,
-        payload: &[u8],
-        queues: &[u8],
-        node: u32,
-        buffer: &mut [u8],
-    ) -> Answer
+    pub fn collect(&mut self, payload: &[u8], queues: &[u8], node: u32, buffer: &mut [u8]) -> Answer
         ensures left { left result self.old.slots payload.now queues.now ≡ leaves (collect_in (held self.old.state self.old.slots payload.now queues.now) node (length buffer.old)) }
         ensures written { buffer.new ≡ buffer_after (collect_in (held self.old.state self.old.slots payload.now queues.now) node (length buffer.old)).reply buffer.old }
         ensures kept { self.new ≡ record { state = result.state; slots = self.old.slots } }
     {
         let answer = kettlefrost::kf_collect(
-            self.state, &self.slots, payload, queues, node, buffer,
+            self.state,
+            &self.slots,
+            payload,
+            queues,
+            node,
+            buffer,
         );
         self.state = answer.state;
         answer

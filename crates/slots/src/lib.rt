@@ -6,10 +6,11 @@ ghost use Rattle.operation.specs.Kinds.{id_of};
 ghost use Rattle.slots.specs.Slots.{free_slot, content_of, held_in, legal_content};
 ghost use Rattle.slots.specs.Blocks.{slot_of};
 
-use operation::Operation;
+use operation::{Code, Operation};
 
 // What a pending frame needs besides its data: its sender, the round at which it was accepted, and the Transmit. kind is the
 // code of the Transmit, and any other number in a slot that holds none; first to fourth are the one-byte fields in their order.
+// Stays: kind is a number, which may be any, since C hands slots over (kf_submit).
 #[repr(C)]
 #[derive(Clone, Copy)]
 pub struct Slot {
@@ -44,26 +45,27 @@ pub fn free() -> Slot
 }
 
 // The Transmit that a slot holds.
-// Stays: C's slot has a number for its kind, which may be any; a match on it is one test a kind (kf_submit).
 #[tactic(auto, unfolding(crate::specs::Slots::content_of))]
 pub fn content_of(s: Slot) -> Option<Operation>
     ensures { result ≡ content_of s }
 {
-    match s.kind {
-        0x10 => Some(Operation::CanTransmit {
+    if s.kind == Code::CanTransmit as u8 {
+        Some(Operation::CanTransmit {
             id: s.id,
             ide: s.first,
             rtr: s.second,
             dl: s.length,
-        }),
-        0x11 => Some(Operation::FdTransmit {
+        })
+    } else if s.kind == Code::FdTransmit as u8 {
+        Some(Operation::FdTransmit {
             id: s.id,
             ide: s.first,
             brs: s.second,
             esi: s.third,
             dl: s.length,
-        }),
-        0x12 => Some(Operation::XlTransmit {
+        })
+    } else if s.kind == Code::XlTransmit as u8 {
+        Some(Operation::XlTransmit {
             id: s.id,
             ide: s.first,
             sec: s.second,
@@ -71,8 +73,9 @@ pub fn content_of(s: Slot) -> Option<Operation>
             vcid: s.fourth,
             af: s.af,
             dl: s.length,
-        }),
-        _ => None,
+        })
+    } else {
+        None
     }
 }
 
@@ -88,9 +91,13 @@ pub fn held_in(s: Slot) -> Operation
 pub fn id_of(s: Slot) -> u32
     ensures { result ≡ id_of (held_in (content_of s)) }
 {
-    match s.kind {
-        0x10 | 0x11 | 0x12 => s.id,
-        _ => 0,
+    if (s.kind == Code::CanTransmit as u8)
+        | (s.kind == Code::FdTransmit as u8)
+        | (s.kind == Code::XlTransmit as u8)
+    {
+        s.id
+    } else {
+        0
     }
 }
 
@@ -104,7 +111,7 @@ pub fn slot_of(op: Operation, owner: u8, accepted: u32) -> Slot
             accepted,
             id,
             length: dl,
-            kind: 0x10,
+            kind: Code::CanTransmit as u8,
             owner,
             first: ide,
             second: rtr,
@@ -120,7 +127,7 @@ pub fn slot_of(op: Operation, owner: u8, accepted: u32) -> Slot
             accepted,
             id,
             length: dl,
-            kind: 0x11,
+            kind: Code::FdTransmit as u8,
             owner,
             first: ide,
             second: brs,
@@ -140,7 +147,7 @@ pub fn slot_of(op: Operation, owner: u8, accepted: u32) -> Slot
             id,
             af,
             length: dl,
-            kind: 0x12,
+            kind: Code::XlTransmit as u8,
             owner,
             first: ide,
             second: sec,
@@ -156,13 +163,13 @@ pub fn slot_of(op: Operation, owner: u8, accepted: u32) -> Slot
 pub fn is_legal(s: Slot) -> bool
     ensures { result ≡ legal_content (content_of s) }
 {
-    let kind = s.kind;
-    if kind == 0x10 {
-        return operation::can_is_legal(s.id, s.first, s.second, s.length);
-    }
-    match kind {
-        0x11 => operation::fd_is_legal(s.id, s.first, s.second, s.third, s.length),
-        0x12 => operation::xl_is_legal(s.id, s.first, s.second, s.third, s.fourth, s.af, s.length),
-        _ => false,
+    if s.kind == Code::CanTransmit as u8 {
+        operation::can_is_legal(s.id, s.first, s.second, s.length)
+    } else if s.kind == Code::FdTransmit as u8 {
+        operation::fd_is_legal(s.id, s.first, s.second, s.third, s.length)
+    } else if s.kind == Code::XlTransmit as u8 {
+        operation::xl_is_legal(s.id, s.first, s.second, s.third, s.fourth, s.af, s.length)
+    } else {
+        false
     }
 }

@@ -27,6 +27,7 @@ use outcome::{Change, Done, Refusal};
 use slots::Slot;
 
 // What an item of a buffer does.
+// Stays: settings are numbers, as the C interface holds them in NodeState (kf_submit).
 #[derive(Clone, Copy)]
 enum Effect {
     Nothing,
@@ -376,7 +377,7 @@ impl<'a> Sender<'a> {
 
     // Carries a buffer out, of which every step can be done, with the sender's four slots, those from `start` on. Whatever the other slots
     // are, they stay.
-    // Stays: four locals and not an array, since one variable index keeps it in memory, with what holds it (docs/PROVING.md, "Code").
+    // Stays: four locals, since an array was tried and is slower (docs/notes/00-base-speed.md).
     fn carry_buffer(
         &self,
         start: usize,
