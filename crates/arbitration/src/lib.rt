@@ -74,6 +74,7 @@ fn first_slot(best: Option<Winner>) -> usize
 // ---- the removal of the winner
 
 // Where what stands at i of a node's slots comes from, once the frame at a position is removed.
+// Stays: two numbers and a bound, in three functions; a struct of the two would only wrap them (`source`).
 fn source(position: usize, last: usize, i: usize) -> usize
     requires { (i < slots_per_node) × (last < slots_per_node) }
     ensures { (result ≡ source position last i) × (result < slots_per_node) }
