@@ -99,8 +99,8 @@ impl Line {
         self.fill(width.saturating_sub(n)).text(&digits[..n])
     }
 
-    // As many of a number's last digits, in hexadecimal.
-    fn put_hex(&mut self, x: u32, digits: usize)
+    // As many of a number's last digits, in hexadecimal: at most 255, so that the calls do not run deep.
+    fn put_hex(&mut self, x: u32, digits: u8)
         ensures { self.new ≡ after_all self.old (hex_digits digits x) }
     {
         if digits > 0 {
@@ -109,8 +109,8 @@ impl Line {
         }
     }
 
-    // The same.
-    pub fn hex(mut self, x: u32, digits: usize) -> Self
+    // The same, of a line that is handed on.
+    pub fn hex(mut self, x: u32, digits: u8) -> Self
         ensures { result ≡ after_all self (hex_digits digits x) }
     {
         self.put_hex(x, digits);
