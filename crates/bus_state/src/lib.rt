@@ -105,7 +105,7 @@ pub fn slot_follows(s: Slot, owner: u8, low: u32) -> bool
 
 // Reading and setting one entry and its fields, for the crates above: what is asked of j they must meet.
 
-// Stays: from its half of the entries, since a copy of all was tried and is slower (docs/notes/00-base-speed.md).
+// Stays: from its half of the entries, since a copy of all was tried and takes longer (docs/notes/00-base-speed.md).
 pub fn entry(s: State, j: usize) -> NodeState
     requires { j < 8 }
     ensures { result ≡ node_state s j }
@@ -152,7 +152,7 @@ pub fn with_behaviour(d: NodeState, behaviour: u8) -> NodeState
     NodeState { behaviour, ..d }
 }
 
-// Stays: by constant indices, since `rates[i] = rate` was tried and is slower (docs/notes/00-base-speed.md).
+// Stays: by constant indices, with which a submit took 0.89 of its time; it misses its aim as it is (docs/PERFORMANCE.md).
 #[tactic(auto, using(crate::proofs::Arrays::set_of_three))]
 pub fn with_rate(mut d: NodeState, i: usize, rate: u32) -> NodeState
     requires { i < 3 }

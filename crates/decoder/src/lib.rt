@@ -24,6 +24,7 @@ pub enum Fault {
 }
 
 impl Fault {
+    // Stays: a cast with a name; u8::from(fault) would be no plainer (fault_number).
     pub fn number(self) -> u8
         ensures { result ≡ fault_number self }
     {

@@ -50,8 +50,8 @@ impl Line {
         }
     }
 
-    #[tactic(auto, unfolding(crate::specs::Text::after))]
     // One byte. A full line is written first, which leaves it empty.
+    #[tactic(auto, unfolding(crate::specs::Text::after))]
     fn put(&mut self, byte: u8)
         ensures { self.new ≡ after self.old byte }
     {

@@ -130,6 +130,7 @@ impl TryFrom<u8> for ErrorFlag {
     }
 }
 
+// Stays: the names of each table apart, as try_from above: each has its own clause (error_flag_name).
 impl ErrorFlag {
     pub fn name(self) -> &'static str
         ensures { result.now ≡ error_flag_name self }

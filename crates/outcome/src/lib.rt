@@ -26,6 +26,7 @@ pub enum Refusal {
 
 impl Refusal {
     // The number of 01.
+    // Stays: a cast with a name; u32::from(refusal) would be no plainer (refusal_number).
     pub fn number(self) -> u32
         ensures { result ≡ refusal_number self }
     {

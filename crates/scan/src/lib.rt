@@ -27,7 +27,7 @@ pub struct Run {
 }
 
 // The key of a state that is not valid. That of a frame is its rank * 32 + its slot + 1, so that the lowest key is the winner's.
-// Stays: one number, and no Option, as `scanned` and the theorem scanned-is have it: 0 wins every minimum.
+// Stays: one number, and no Option, as `scanned` and the theorem scanned_is have it: 0 wins every minimum.
 pub const INVALID: u64 = 0;
 
 const NO_FRAME: u64 = 137438953473;

@@ -132,6 +132,7 @@ fn is_unreached(d: NodeState, k: usize, j: usize) -> bool
 }
 
 // The fill of node j's queue with u of them.
+// Stays: d is the entry of node j, k the sender, u its Wakeups: a struct of them would be made anew in each turn of a loop (wake).
 #[tactic(auto, unfolding(crate::specs::Counting::wakeup_length))]
 fn fill_woken(d: NodeState, k: usize, u: u32, j: usize) -> usize
     ensures { result ≡ fill_woken d k u j }
@@ -230,6 +231,7 @@ fn entry_after(d: NodeState, effect: Effect, size: usize) -> NodeState
 // ---- carrying it out
 
 // Lays a Wakeup over a buffer from a position on.
+// Stays: this and the next beside arbitration's put_operation: each writes by a function a kind, and builds no operation.
 fn lay_wakeup(queues: &mut [u8], at: usize)
     requires { at + length_of Operation.Wakeup ≤ length queues.old }
     ensures { queues.new ≡ over queues.old at (encode Operation.Wakeup []) }
@@ -337,6 +339,7 @@ impl<'a> Sender<'a> {
         let mut wakeups: u32 = 0;
         let mut at: usize = 0;
         while let Some(step) = step_at(buffer, at) {
+            // Stays: `at` is where the step begins; a Cursor in Step would say the same (NextIs).
             let effect = step.effect;
             let size = step.end - at;
             if is_wakeup(d, effect) {
@@ -377,7 +380,7 @@ impl<'a> Sender<'a> {
 
     // Carries a buffer out, of which every step can be done, with the sender's four slots, those from `start` on. Whatever the other slots
     // are, they stay.
-    // Stays: four locals, since an array was tried and is slower (docs/notes/00-base-speed.md).
+    // Stays: four locals: an array was tried and takes longer (docs/notes/00-base-speed.md), and a submit misses its aim as it is.
     fn carry_buffer(
         &self,
         start: usize,
