@@ -36,6 +36,7 @@ pub struct Injection {
 }
 
 // From the numbers of a call: 0 for no error, any other for one.
+// Stays: three numbers make it, as kf_round has them, and `From` takes one value (injection_from).
 pub fn injection_of(injected: u32, code: u32, detector: u32) -> Option<Injection>
     ensures { injection_of result ≡ injection_from injected code detector }
 {
@@ -61,6 +62,7 @@ fn is_wrong(s: State, e: Option<Injection>) -> bool
 // ---- the winner
 
 // The first slot of the winner's node; 0 where there is no winner.
+// Stays: a number in each case, as the definition has it (owner_of).
 fn first_slot(best: Option<Winner>) -> usize
     requires { owner_of best < 8 }
     ensures { result ≡ slots_per_node * owner_of best }

@@ -104,6 +104,7 @@ pub fn slot_follows(s: Slot, owner: u8, low: u32) -> bool
 }
 
 // Reading and setting one entry and its fields, for the crates above: what is asked of j they must meet.
+// Stays: a function a field, of two values each, so that no `From` says it: each is a step of the definitions (entry_fill and its like).
 
 // Stays: from its half of the entries, since a copy of all was tried and takes longer (docs/notes/00-base-speed.md).
 pub fn entry(s: State, j: usize) -> NodeState

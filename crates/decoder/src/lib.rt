@@ -80,6 +80,7 @@ fn u32_at(t: &[u8], i: usize) -> u32
 }
 
 // The code that some bytes start with; bytes that are missing count as 0.
+// Stays: no `TryFrom`, since it can not fail (number_at).
 pub fn code_of(t: &[u8]) -> u32
     ensures { result ≡ number_at 4 t.now 0 }
 {

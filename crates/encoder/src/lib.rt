@@ -19,6 +19,7 @@ pub enum WriteError {
 }
 
 // The number of the answer: 0 where the operation was written.
+// Stays: no `From`, since Result and u8 are both of std (written_number).
 pub fn number_of(w: Result<usize, WriteError>) -> u8
     ensures { result ≡ written_number w }
 {

@@ -228,6 +228,7 @@ fn no_operation(end: u32, fault: u32, next: usize) -> ReadAnswer
 }
 
 // What was read, with the position behind it.
+// Stays: the item and the position make it together, and `From` takes one value (item_answer).
 fn answer_item(item: Result<Operation, Fault>, next: usize) -> ReadAnswer
     ensures { result ≡ item_answer item next }
 {

@@ -89,6 +89,7 @@ pub struct Answer {
     pub state: State,
 }
 
+// Stays: outcome and state make it together, and `From` takes one value (answer_of).
 pub fn answer_of(outcome: Outcome, state: State) -> Answer
     ensures { result ≡ answer_of outcome state }
 {

@@ -118,6 +118,7 @@ impl Run {
 }
 
 // The winner by the key of a valid state.
+// Stays: it asks for the key of a valid state, which `From` can not.
 #[tactic(auto, using(crate::proofs::Keys::no_frame_lem))]
 pub fn winner_of(key: u64) -> Option<Winner>
     requires { 1 ≤ key }
@@ -136,6 +137,7 @@ pub fn winner_of(key: u64) -> Option<Winner>
 }
 
 // The first slot of the winner's node; 0 where there is no winner.
+// Stays: a number in each case, as the definition has it (winner_block): four slots are read in each.
 #[tactic(auto, unfolding(crate::specs::Scan::winner_block), using(crate::proofs::Keys::some_key))]
 pub fn winner_block(key: u64) -> usize
     ensures { (result ≡ winner_block key) × (result + slots_per_node ≤ slot_count) }

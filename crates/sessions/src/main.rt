@@ -23,6 +23,7 @@ const NODES: u32 = 3;
 // Collects each node's queue and writes it.
 fn write_queues(out: Stdout, bus: &mut Bus, payload: &[u8], queues: &[u8]) {
     for node in 0..NODES {
+        // Stays: the caller's buffer of a collect, whose length the answer gives (kf_collect).
         let mut buffer = [0; 4096];
         let answer = bus.collect(payload, queues, node, &mut buffer);
         if let Some(queue) = buffer.get(..usize::from(answer.length)) {

@@ -45,6 +45,7 @@ pub fn free() -> Slot
 }
 
 // The Transmit that a slot holds.
+// Stays: a free slot is no error, so that `TryFrom` would be no plainer than an Option (content_of).
 #[tactic(auto, unfolding(crate::specs::Slots::content_of))]
 pub fn content_of(s: Slot) -> Option<Operation>
     ensures { result ≡ content_of s }
@@ -87,6 +88,7 @@ pub fn held_in(s: Slot) -> Operation
 }
 
 // The ID of the Transmit that a slot holds, and 0 for a free one.
+// Stays: a part of the slot, and 0 as the definition has it (id_of).
 #[tactic(auto, unfolding(crate::specs::Slots::content_of))]
 pub fn id_of(s: Slot) -> u32
     ensures { result ≡ id_of (held_in (content_of s)) }
@@ -102,6 +104,7 @@ pub fn id_of(s: Slot) -> u32
 }
 
 // The slot that holds a Transmit; a free one for any other operation.
+// Stays: an operation, its owner and a round make it, and `From` takes one value (slot_of).
 #[tactic(auto, unfolding(crate::specs::Blocks::slot_of))]
 pub fn slot_of(op: Operation, owner: u8, accepted: u32) -> Slot
     ensures { result ≡ slot_of op owner accepted }

@@ -403,6 +403,7 @@ impl<'a> Sender<'a> {
         let mut wakeups: u32 = 0;
         let mut at: usize = 0;
         while let Some(step) = step_at(buffer, at) {
+            // Stays: `at` as in check_buffer.
             let effect = step.effect;
             let end = step.end;
             let after = entry_after(d, effect, end - at);
