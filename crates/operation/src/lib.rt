@@ -4,7 +4,8 @@
 
 ghost use Rattle.std.specs.Prelude.{◌≡◌, ◌≤◌, ◌&&◌};
 ghost use Rattle.operation.specs.Format.{head_length, data_length, configuration_length};
-ghost use Rattle.operation.specs.Tables.{code_number, code_from, error_code_from, error_flag_from, status_from, configuration_kind_from, behaviour_from};
+ghost use Rattle.operation.specs.Tables.{code_number, error_code_number, error_flag_number, status_number, configuration_kind_number, behaviour_number};
+ghost use Rattle.operation.specs.Tables.{code_from, error_code_from, error_flag_from, status_from, configuration_kind_from, behaviour_from};
 ghost use Rattle.operation.specs.Tables.{error_code_name, error_flag_name, status_name, configuration_kind_name, behaviour_name};
 ghost use Rattle.operation.specs.Rules.{is_bit, max_id, one_of, fd_length, can_length, remote_rule, error_codes, error_flags, behaviours, legal};
 
@@ -93,6 +94,14 @@ impl TryFrom<u32> for ErrorCode {
     }
 }
 
+impl From<ErrorCode> for u8 {
+    ghost from_gives = { λ value x. x ≡ error_code_number value };
+
+    fn from(value: ErrorCode) -> u8 {
+        value as u8
+    }
+}
+
 impl ErrorCode {
     pub fn name(self) -> &'static str
         ensures { result.now ≡ error_code_name self }
@@ -130,6 +139,14 @@ impl TryFrom<u8> for ErrorFlag {
     }
 }
 
+impl From<ErrorFlag> for u8 {
+    ghost from_gives = { λ value x. x ≡ error_flag_number value };
+
+    fn from(value: ErrorFlag) -> u8 {
+        value as u8
+    }
+}
+
 // Stays: the names of each table apart, as try_from above: each has its own clause (error_flag_name).
 impl ErrorFlag {
     pub fn name(self) -> &'static str
@@ -162,6 +179,14 @@ impl TryFrom<u8> for NodeStatus {
             3 => Ok(NodeStatus::BusOff),
             _ => Err(NotInTable),
         }
+    }
+}
+
+impl From<NodeStatus> for u8 {
+    ghost from_gives = { λ value x. x ≡ status_number value };
+
+    fn from(value: NodeStatus) -> u8 {
+        value as u8
     }
 }
 
@@ -202,6 +227,14 @@ impl TryFrom<u8> for ConfigurationKind {
     }
 }
 
+impl From<ConfigurationKind> for u8 {
+    ghost from_gives = { λ value x. x ≡ configuration_kind_number value };
+
+    fn from(value: ConfigurationKind) -> u8 {
+        value as u8
+    }
+}
+
 impl ConfigurationKind {
     pub fn name(self) -> &'static str
         ensures { result.now ≡ configuration_kind_name self }
@@ -233,6 +266,14 @@ impl TryFrom<u32> for LostBehavior {
             2 => Ok(LostBehavior::DiscardAndNotify),
             _ => Err(NotInTable),
         }
+    }
+}
+
+impl From<LostBehavior> for u32 {
+    ghost from_gives = { λ value x. x ≡ behaviour_number value };
+
+    fn from(value: LostBehavior) -> u32 {
+        value as u32
     }
 }
 
