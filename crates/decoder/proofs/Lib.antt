@@ -7,3 +7,4 @@ pub mod Payload
 pub mod Encoded
 pub mod Decoded
 pub mod Codes
+pub mod Numbers

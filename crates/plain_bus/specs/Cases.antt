@@ -288,6 +288,7 @@ cases =
     gives items
     (fault 3 fault3 ∷ fault 4 fault4 ∷ fault 4 (of_kind 0) ∷ fault 4 (of_kind 5) ∷ fault 5 fault5 ∷ fault 2 (fault2 ++ w1) ∷ [])
     ∷ front_of fault1 gives stands (Some (sized (Err TooFewLeft) 7))
+    ∷ items_in fault1 gives items (fault 1 fault1 ∷ [])
     -- a remote frame has no data field: with data it is fault 5, also where Rtr 2 breaks a rule of its own, and with another length
     -- than that of the table fault 4
     ∷ items_in (remote0 ++ remote1 ++ remote8 ++ classic 2 16 0 [] ++ classic 1 23 8 (1 ∷ 2 ∷ 3 ∷ 4 ∷ 5 ∷ 6 ∷ 7 ∷ []))

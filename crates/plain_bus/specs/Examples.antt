@@ -7,7 +7,7 @@ use Rattle.operation.specs.declared.Operation.{Operation}
 use Rattle.operation.specs.declared.Operation.TheVariants.{CanTransmit, FdTransmit, XlTransmit, Confirm, ArbitrationLost, Configuration}
 use Rattle.decoder.specs.Front.{sized, front}
 use Rattle.decoder.specs.Reading.{read_at, data_at}
-use Rattle.decoder.specs.Stream.{Item, items_of}
+use Rattle.decoder.specs.Stream.{Item, fault, items_of}
 use Rattle.decoder.specs.declared.Reading.{Reading}
 use Rattle.decoder.specs.declared.Front.{Front}
 use Rattle.decoder.specs.declared.Fault.TheVariants.{BadLength}
@@ -156,6 +156,8 @@ table =
     ∷ is_legal (XlTransmit 1 0 0 0 0 0 2_048) gives truth true
     ∷ front_of (twelve 7) gives stands (Some (sized (Err BadLength) 12))
     ∷ front_of (twelve 13) gives stands (Some (sized (Err BadLength) 12))
+    ∷ items_in (twelve 7) gives items (fault 2 (twelve 7) ∷ [])
+    ∷ items_in (twelve 13) gives items (fault 2 (twelve 13) ∷ [])
     ∷ []
 
 -- the one statement: the definitions compute what 01 prints
