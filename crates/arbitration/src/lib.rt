@@ -2,7 +2,7 @@
 // This is for the bus crate above: what is required its caller must meet.
 #![tactic(auto)]
 
-ghost use Rattle.std.specs.Prelude.{◌≡◌, true, List, ◌+◌, ◌-◌, ◌*◌, ◌≤◌, ◌<◌, length, Option, Some};
+ghost use Rattle.std.specs.Prelude.{◌≡◌, true, List, [], ◌+◌, ◌-◌, ◌*◌, ◌≤◌, ◌<◌, length, Option, Some};
 ghost use Rattle.operation.specs.Kinds.{id_of};
 ghost use Rattle.operation.specs.Format.{data_length, length_of, encode};
 ghost use Rattle.operation.specs.Rules.{legal, max_extended_id};
@@ -179,6 +179,14 @@ fn put_operation(op: Operation, bytes: &[u8], buffer: &mut [u8], at: usize)
     let _ = encoder::write(op, bytes, &mut buffer[at..]);
 }
 
+// The same of an Arbitration Lost, of which a round may write 28: by its own writer, since the choice by the kind takes longer.
+fn put_lost(id: u32, buffer: &mut [u8], at: usize)
+    requires { (legal (Operation.ArbitrationLost id) ≡ true) × (at + length_of (Operation.ArbitrationLost id) ≤ length buffer.old) }
+    ensures { buffer.new ≡ over buffer.old at (encode (Operation.ArbitrationLost id) []) }
+{
+    let _ = encoder::write_arbitration_lost(id, b"", &mut buffer[at..]);
+}
+
 // Arbitration Lost for a frame by its ID, unless it is the winner; answers the place after it.
 fn put_notice(id: u32, wins: bool, queues: &mut [u8], at: usize) -> usize
     requires { (id ≤ max_extended_id) × (at + length (notice_of wins id) ≤ length queues.old) }
@@ -188,7 +196,7 @@ fn put_notice(id: u32, wins: bool, queues: &mut [u8], at: usize) -> usize
     if wins {
         return at;
     }
-    put_operation(Operation::ArbitrationLost { id }, b"", queues, at);
+    put_lost(id, queues, at);
     at + operation::ARBITRATION_LOST_LENGTH
 }
 

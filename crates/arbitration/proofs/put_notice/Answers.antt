@@ -4,7 +4,7 @@ use Rattle.arbitration.proofs.Told.{lost-lawful}
 use Rattle.operation.proofs.Sizes.{encode-length}
 use Rattle.operation.specs.declared.Operation.TheVariants.{ArbitrationLost}
 use mathlib.Core.List.{[]}
-use mathlib.Core.Path.{refl, sym}
+use mathlib.Core.Path.{sym}
 use native.Mathlib.Nat.{add-zero}
 use native.Mathlib.Omega.{arith}
 use Rattle.arbitration.proofs.put_notice.Goals as goal
@@ -12,10 +12,10 @@ use Rattle.arbitration.proofs.put_notice.Goals as goal
 pub returns-then-wins : goal.returns-then-wins
 returns-then-wins c = rw c.if-wins.true (record { value = sym (add-zero _); queues_after = sym (over_none _ _) })
 
-pub put_operation-requires : goal.put_operation-requires
-put_operation-requires c =
+pub put_lost-requires : goal.put_lost-requires
+put_lost-requires c =
     let l = encode-length (ArbitrationLost c.args.id) [] in
-    record { op_value = (lost-lawful _ c.requires.0, refl, omega arith); op_in_bounds = omega (arith, rw (c.if-wins.false, l) at c.requires.1) }
+    (lost-lawful _ c.requires.0, omega (arith, rw (c.if-wins.false, l) at c.requires.1))
 
 pub overflow_add-result : goal.overflow_add-result
 overflow_add-result c =
@@ -25,4 +25,4 @@ overflow_add-result c =
 pub returns : goal.returns
 returns c =
     let l = encode-length (ArbitrationLost c.args.id) [] in
-    rw c.if-wins.false (record { value = rw l; queues_after = c.put_operation.ensures })
+    rw c.if-wins.false (record { value = rw l; queues_after = c.put_lost.ensures })
