@@ -80,15 +80,15 @@ fn configuration_effect(kind: u8, value: u32) -> Effect
 }
 
 #[tactic(auto, unfolding(crate::specs::Effects::operation_effect))]
-fn operation_effect(op: Operation) -> Effect
-    requires { legal op ≡ true }
-    ensures { result ≡ operation_effect op }
+fn operation_effect(op: &Operation) -> Effect
+    requires { legal op.now ≡ true }
+    ensures { result ≡ operation_effect op.now }
 {
-    match op {
+    match *op {
         Operation::FormatError { .. } => Effect::Nothing,
         Operation::CanTransmit { .. }
         | Operation::FdTransmit { .. }
-        | Operation::XlTransmit { .. } => Effect::Transmit(op),
+        | Operation::XlTransmit { .. } => Effect::Transmit(*op),
         Operation::Confirm { .. }
         | Operation::ArbitrationLost { .. }
         | Operation::BusError { .. } => Effect::Answer,
@@ -113,9 +113,9 @@ fn fault_effect(bytes: &[u8]) -> Effect
 fn step_at(buffer: &[u8], at: usize) -> Option<Step>
     ensures { NextIs buffer.now at result }
 {
-    let Reading { item, next } = (Cursor { at }).read(buffer)?;
-    let end = next.at;
-    let effect = match item {
+    let reading = (Cursor { at }).read(buffer)?;
+    let end = reading.next.at;
+    let effect = match &reading.item {
         Ok(op) => operation_effect(op),
         Err(_) => fault_effect(&buffer[at..end]),
     };
