@@ -16,14 +16,17 @@ use decoder::{Cursor, Reading};
 use operation::{NodeStatus, Operation};
 use std::marker::Model;
 
-pub const MAX_OPEN: usize = 345;
+// The most open IDs.
+pub const MAX_OPEN: u32 = 345;
+
+const ROOM: usize = MAX_OPEN as usize;
 
 // The first count of ids are the open ones, oldest first; off is not 0 where the node is Bus-Off.
 // Stays: the C interface hands a register over by its fields, which may hold any numbers (kf_register_enter).
 #[repr(C)]
 #[derive(Clone, Copy)]
 pub struct Register {
-    pub ids: [u32; MAX_OPEN],
+    pub ids: [u32; ROOM],
     pub count: u32,
     pub off: u32,
 }
@@ -47,7 +50,7 @@ enum Refusal {
 // The register that a call works on. Clauses see it as the plain register: the open IDs, and whether the node is Bus-Off.
 #[derive(Drop)]
 struct OpenFrames {
-    ids: ArrayVec<u32, MAX_OPEN>,
+    ids: ArrayVec<u32, ROOM>,
     off: bool,
 }
 
@@ -181,7 +184,7 @@ impl From<OpenFrames> for Register {
     // 0 past the open IDs.
     fn from(frames: OpenFrames) -> Register {
         let count = frames.ids.len();
-        let mut ids = [0; MAX_OPEN];
+        let mut ids = [0; ROOM];
         ids[..count].copy_from_slice(frames.ids.as_slice());
         Register {
             ids,
@@ -196,17 +199,22 @@ pub fn new_register() -> Register
     ensures { result ≡ record_of new_register }
 {
     Register {
-        ids: [0; MAX_OPEN],
+        ids: [0; ROOM],
         count: 0,
         off: 0,
     }
 }
 
-// Whether all IDs fit 29 bits.
+// Whether all IDs fit 29 bits. The loop goes on to its end, so that the object code takes several IDs at a time; `all` stops at the first.
+#[tactic(auto, using(std::proofs::lemmas::List::Folds::list_all_more))]
 fn all_fit(ids: &[u32]) -> bool
     ensures { result ≡ list_all (λ x. leb x max_extended_id) ids.now }
 {
-    ids.iter().all(|&id| id <= operation::MAX_EXTENDED_ID)
+    let mut fit = true;
+    for &id in ids {
+        fit &= id <= operation::MAX_EXTENDED_ID;
+    }
+    fit
 }
 
 // Whether a register is valid (01: sound).
