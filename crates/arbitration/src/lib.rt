@@ -179,7 +179,7 @@ fn put_operation(op: Operation, bytes: &[u8], buffer: &mut [u8], at: usize)
     let _ = encoder::write(op, bytes, &mut buffer[at..]);
 }
 
-// The same of an Arbitration Lost, of which a round may write 28: by its own writer, since the choice by the kind takes longer.
+// The same of an Arbitration Lost, of which a round may write 31: by its own writer, since the choice by the kind takes longer.
 fn put_lost(id: u32, buffer: &mut [u8], at: usize)
     requires { (legal (Operation.ArbitrationLost id) ≡ true) × (at + length_of (Operation.ArbitrationLost id) ≤ length buffer.old) }
     ensures { buffer.new ≡ over buffer.old at (encode (Operation.ArbitrationLost id) []) }

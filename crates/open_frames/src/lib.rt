@@ -205,7 +205,7 @@ pub fn new_register() -> Register
     }
 }
 
-// Whether all IDs fit 29 bits. The loop goes on to its end, so that the object code takes several IDs at a time; `all` stops at the first.
+// Whether all IDs fit 29 bits. The loop goes on to its end, so that the object code takes several IDs at a time; `all` takes each alone.
 #[tactic(auto, using(std::proofs::lemmas::List::Folds::list_all_more))]
 fn all_fit(ids: &[u32]) -> bool
     ensures { result ≡ list_all (λ x. leb x max_extended_id) ids.now }
